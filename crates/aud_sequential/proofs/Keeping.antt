@@ -6,7 +6,7 @@ use Rattle.aud_text.specs.declared.place.Pos.{Pos}
 use Rattle.aud_typed.specs.Tree.{UnitPlan}
 use Rattle.aud_meaning.specs.Effects.{live_frames}
 use Rattle.aud_meaning.specs.Step.{has_next}
-use Rattle.aud_meaning.specs.Ties.Part.{Part, Rest, rest_of}
+use Rattle.aud_meaning.specs.Ties.Part.{Part, rest_of}
 use Rattle.aud_code.specs.declared.line.Ending.{Ending}
 use Rattle.aud_code.specs.declared.line.Ending.TheVariants.{Declare, DeclareArray, Null, Assign, Put, If, While, Loop, Exit, RaiseAgain, Block, Return, Call}
 use Rattle.aud_code.specs.declared.line.Ending.TheVariants as ending

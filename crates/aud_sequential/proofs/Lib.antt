@@ -7,3 +7,4 @@ pub mod Leaving
 pub mod Numbers
 pub mod FastSteps
 pub mod FastRuns
+pub mod Ahead

@@ -131,7 +131,7 @@ module _ (code : Flat) (plan : Plan) (barrier : ℕ → Sight → Result Bool Ra
       let p = on_stored (entered for_block region at [] 0) q in
       either (nat_le (suc (live_frames q.stack.opened)) FRAMES) _ _ _ _ (goes_to l is_end (W p) 1 (goes inside q.control) refl) refl
 
-  continues_so : (f : ForLoop) (behind inside : ℕ) (at : Pos) (out : ℕ) (w : Option ℕ) → plain_end (record { last = Continues f behind inside; at = at; out = out; within = w }) ≡ end_at code q.control.place →
+  pub continues_so : (f : ForLoop) (behind inside : ℕ) (at : Pos) (out : ℕ) (w : Option ℕ) → plain_end (record { last = Continues f behind inside; at = at; out = out; within = w }) ≡ end_at code q.control.place →
       W (continued f behind inside q) ≡ Acts (next_of_loop (plain_for f))
   continues_so f behind inside at out w is_end =
       let l : EndLine = record { last = Continues f behind inside; at = at; out = out; within = w } in

@@ -4,3 +4,4 @@ pub mod Parked
 pub mod Next
 pub mod Standing
 pub mod Fast
+pub mod Leading

@@ -3,6 +3,7 @@
 
 mod coming;
 pub mod fast;
+pub mod leading;
 pub mod progress;
 pub mod standing;
 mod statements;

@@ -1,5 +1,6 @@
 -- Those of a list in memory that pass, by their numbers.
-use Rattle.std.proofs.Common.{◌≡◌, ◌+◌, ◌<◌, ℕ, suc, List, [], ◌∷◌, ◌++◌, length, drop, map, get_or, Bool, true, false, if◌then◌else◌, add-one, append_assoc, refl, ap, sym, ◌∙◌}
+use Rattle.std.proofs.Common.{◌≡◌, ◌+◌, ◌<◌, ℕ, zero, suc, List, [], ◌∷◌, ◌++◌, length, drop, map, get_or, Bool, true, false, if◌then◌else◌, add-one, append_assoc, refl, ap, sym, ◌∙◌, arith}
+use Rattle.std.proofs.lemmas.Bool.{or_right}
 use Rattle.std.proofs.lemmas.List.{at_drop_more}
 use Rattle.std.proofs.lemmas.Cmp.{nat_eq_equiv}
 use Rattle.std.specs.List.{list_any}
@@ -64,3 +65,8 @@ any_here p xs n x within is passes =
     at_drop_more (any p) xs n x within
     ∙ ap (λ z. p z || any p (drop (n + 1) xs)) (sym is)
     ∙ ap (λ b. b || any p (drop (n + 1) xs)) passes
+
+pub any_there : {A : Type 0} (p : A → Bool) (xs : List A) (n : ℕ) (x : A) → n < length xs → x ≡ get_or xs n x → p x ≡ true → any p xs ≡ true
+any_there p [] n x within is passes = absurd (omega (arith, within))
+any_there p (y ∷ ys) zero x within is passes = ap (λ z. p z || any p ys) (sym is) ∙ ap (λ b. b || any p ys) passes
+any_there p (y ∷ ys) (suc n) x within is passes = or_right (p y) (any p ys) (any_there p ys n x (omega (arith, within)) is passes)

@@ -5,4 +5,5 @@ pub mod Creating
 pub mod Evaluating
 pub mod Reading
 pub mod Running
+pub mod Ahead
 pub mod Started

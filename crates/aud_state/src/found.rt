@@ -240,8 +240,9 @@ fn holds(tasks: &[Task], master: usize) -> bool
     ensures { result ≡ any (λ t. depends master t.own && not (may_terminate t.own))
         (map plain_task tasks.now) }
 {
-    for task in tasks {
-        if task.holds(master) {
+    // What depends on an inner master came last.
+    for n in (0..tasks.len()).rev() {
+        if tasks[n].holds(master) {
             return true;
         }
     }

@@ -9,7 +9,7 @@ mod copies;
 mod creation;
 mod ending;
 mod evaluation;
-mod fast;
+pub mod fast;
 mod forget;
 mod formals;
 mod found;

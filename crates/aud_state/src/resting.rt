@@ -14,6 +14,8 @@ use aud_meaning::state::{OpenDelay, Status};
 impl State {
     /// Whether a task rests: it waits for other tasks, or for a time that has not come. So much one look at it tells; it may have no
     /// move in other cases, too.
+    // A run asks it of each task before each step that it looks for.
+    #[inline(always)]
     pub fn rests(&self, task: usize) -> bool
         ensures { IsTrue result → Rests task self.now }
     {
@@ -25,6 +27,7 @@ impl State {
 }
 
 impl Task {
+    #[inline(always)]
     fn rests(&self, clock: u64, calls: &Calls) -> bool
         ensures { IsTrue result →
             RestsBy self.now.status clock calls.now.calls (plain_task self.now).own }
@@ -43,6 +46,7 @@ impl Task {
     }
 
     // Whether it is not abnormal and services no object.
+    #[inline(always)]
     fn is_undisturbed(&self) -> bool
         ensures { IsTrue result → IsUndisturbed (plain_task self.now).own }
     {
@@ -51,6 +55,7 @@ impl Task {
 }
 
 // Whether the time of one of these delays has come.
+#[inline(always)]
 fn has_come(delays: &[OpenDelay], clock: u64) -> bool
     ensures { result ≡ any (has_come clock) delays.now }
 {

@@ -11,7 +11,7 @@ use Rattle.aud_code.specs.Flat.{Flat, flat_controls}
 use Rattle.aud_expr.specs.Size.{size}
 use Rattle.aud_over.specs.Over.{forgotten}
 use Rattle.aud_tasks.specs.declared.run.Ran.{Ran}
-use Rattle.aud_tasks.specs.declared.run.Spent.{Spent}
+use Rattle.aud_state.specs.declared.fast.Taken.{Taken}
 use Rattle.aud_tasks.specs.Turning.{turn_in}
 
 -- the same is left in new as after n steps from old, or after those until no move is enabled, and what was done is told
@@ -52,11 +52,11 @@ abbrev pub RunsOn : Plan → Flat → Limits → ℕ → All Spot → All Spot �
 RunsOn plan code limits k old new = (n : ℕ) → run_with plan (flat_controls plan code) limits (k + n) old ≡ run_with plan (flat_controls plan code) limits n new
 
 -- at most n steps that a run does first
-pub record RunsFirst (plan : Plan) (code : Flat) (limits : Limits) (n : ℕ) (old new : All Spot) (spent : Spent) : Type 0 where
-  pub leads : RunsOn plan code limits spent.steps old new
-  pub steps : spent.steps + old.steps ≡ new.steps
-  pub within : spent.steps ≤ n
-  pub few : spent.ticks ≤ spent.steps * size code
+pub record RunsFirst (plan : Plan) (code : Flat) (limits : Limits) (n : ℕ) (old new : All Spot) (taken : Taken) : Type 0 where
+  pub leads : RunsOn plan code limits taken.steps old new
+  pub steps : taken.steps + old.steps ≡ new.steps
+  pub within : taken.steps ≤ n
+  pub few : taken.ticks ≤ taken.steps * size code
 
 -- no choice is used up for a move: there are no others, or no choice waits
 abbrev pub IsUnchosen : List Move → List ℕ → Type 0
