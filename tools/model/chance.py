@@ -13,13 +13,14 @@ INDEXES = ("1", "1", "2", "0")
 
 
 class Writer:
-    """What is visible is a list of kinds and names: variable, constant, array, exception, procedure, task, tasks, label; entry and
-    entries, with the names of the task, or the array of tasks, and the modes of their formals; accept, an entry of the task itself
-    with its formals, where it may be accepted; count, where its Count may stand."""
+    """What is visible is a list of kinds and names: variable, constant, array, exception, procedure, function, task, tasks, label; entry
+    and entries, with the names of the task or protected object, or the array of tasks, and the modes of their formals; accept, an entry
+    of the task itself with its formals, where it may be accepted; count, where its Count may stand, and own in a protected body."""
 
-    def __init__(self, seed, with_tasks):
+    def __init__(self, seed, with_tasks, with_objects=False):
         self.by = random.Random(seed)
         self.with_tasks = with_tasks
+        self.with_objects = with_objects
         self.count = 0
         self.size = 0
 
@@ -60,7 +61,7 @@ class Writer:
         if tasks and kind < 0.3:
             kind, name = self.pick(*tasks)
             return f"{name}{self.index(seen) if kind == 'tasks' else ''}'{self.pick('Callable', 'Terminated')}"
-        counts = self.named(seen, "count")
+        counts = self.named(seen, "count", "own")
         if counts and kind < 0.45:
             return f"{self.pick(*counts)}'Count {self.pick('=', '>', '<')} {self.pick(0, 1, 2)}"
         if kind < 0.5 and depth > 0:
@@ -92,6 +93,8 @@ class Writer:
             return [f"{name} : exception;"]
         if depth <= 0:
             return []
+        if self.with_objects and self.often(0.3):
+            return self.objects_together(seen)
         if kind < 0.55 or not self.with_tasks:
             return self.procedure(seen, depth)
         return self.single_tasks(seen, depth) if self.often(0.6) else self.task_type(seen, depth)
@@ -183,10 +186,166 @@ class Writer:
         name, variable = self.fresh("T"), self.fresh("V")
         inner = seen + [("variable", variable)]
         lines = [f"task {name};", f"task body {name} is", f"{variable} : Integer;", "begin"]
-        lines += [f"for {self.fresh('I')} in 1 .. {self.pick(2, 3, 5)} loop", self.entry_call(inner) or self.delay(inner)]
+        lines.append(f"for {self.fresh('I')} in 1 .. {self.pick(2, 3, 5)} loop")
+        called = [self.entry_call(inner) or self.delay(inner)]
         for _ in range(self.pick(0, 1, 1, 2)):
-            lines += self.tasking(inner, 1, False, False)
-        return lines + ["end loop;", f"end {name};"]
+            called += self.tasking(inner, 1, False, False)
+        if self.with_objects:
+            called = ["begin"] + called + self.operation_calls(inner, variable) + ["exception", "when others => null;", "end;"]
+        return lines + called + ["end loop;", f"end {name};"]
+
+    def operation_calls(self, seen, variable):
+        of_objects = [it for it in seen if it[0] != "procedure" or "." in it[1][0]]
+        return [
+            self.call(of_objects, [variable]) if self.often(0.7) else self.function_call(seen) or "null;" for _ in range(self.pick(1, 2, 3))
+        ]
+
+    # Protected objects.
+
+    def objects_together(self, seen):
+        """One, or two that see each other, and sometimes a procedure that calls them and that they may call."""
+        lines, declared = [], []
+        for _ in range(self.pick(1, 1, 2)):
+            name, operations, components = self.fresh("G"), self.operations(), []
+            lines += self.object_head(name, operations, components, seen)
+            seen += self.operations_outside(name, operations)
+            declared.append((name, operations, components))
+        if self.often(0.4):
+            lines += self.procedure(seen, 1)
+        for name, operations, components in declared:
+            lines += self.object_body(name, operations, components, seen)
+        return lines
+
+    def store(self, seen):
+        """An object whose entries wait for what its procedures give, and tasks that call them."""
+        name, held = self.fresh("G"), self.fresh("C")
+        entries, procedures = [self.fresh("N") for _ in range(self.pick(1, 2, 2))], [self.fresh("Q") for _ in range(self.pick(1, 2))]
+        lines = [f"protected {name} is"] + [f"entry {it} (F : out Integer);" for it in entries] + [f"procedure {it};" for it in procedures]
+        lines += ["private", f"{held} : Natural;", f"end {name};", f"protected body {name} is"]
+        for entry in entries:
+            other = f"{self.pick(*entries)}'Count"
+            usual = self.pick(f"{held} > 0", f"{held} > 1", f"{held} > 0 and {other} = 0", f"{other} > 1", f"{held} = 1 or {held} > 3")
+            barrier = self.pick(f"{held} > 0", usual, usual, f"12 / (3 - {held}) > 4", self.shared(seen))
+            lines += [f"entry {entry} (F : out Integer) when {barrier} is", "begin", f"F := {other};"]
+            lines += self.pick([], [], [], [f"if {held} = 1 then", "raise Program_Error;", "end if;"])
+            lines += [f"{held} := {held} - 1;", f"end {entry};"]
+        for procedure in procedures:
+            lines.append(f"procedure {procedure} is begin {held} := {held} + {self.pick(1, 1, 2, 3)}; end {procedure};")
+        lines.append(f"end {name};")
+        seen += [("entry", (name, it, ("out",))) for it in entries] + [("procedure", (f"{name}.{it}", ())) for it in procedures]
+        for _ in range(self.pick(2, 3, 4)):
+            lines += self.user(name, entries, procedures, seen)
+        return lines
+
+    def user(self, name, entries, procedures, seen):
+        task, variable, calls = self.fresh("T"), self.fresh("V"), []
+        for _ in range(self.pick(1, 2, 3)):
+            entry = f"{name}.{self.pick(*entries)} ({variable});"
+            waits = ["else"] if self.often(0.3) else ["or", self.delay(self.without(seen, "variable"))]
+            offer = ["select", entry] + waits + ["null;", "end select;"]
+            calls += self.pick([entry], [entry], offer, [f"{name}.{self.pick(*procedures)};"])
+        changed = self.named(seen, "variable")
+        calls += [f"{self.pick(*changed)} := {self.pick(0, 1)};"] if changed and self.often(0.3) else []
+        lines = [f"task {task};", f"task body {task} is", f"{variable} : Integer;", "begin"]
+        lines += [f"for {self.fresh('I')} in 1 .. {self.pick(1, 2, 3)} loop", "begin"] + calls
+        return lines + ["exception", "when others => null;", "end;", "end loop;", f"end {task};"]
+
+    def operations(self):
+        """Kind, name, formals and their text, and whether others see it."""
+        kinds = ["entry"] * self.pick(0, 1, 1, 2, 3) + ["procedure"] * self.pick(1, 1, 2) + ["function"] * self.pick(0, 0, 1, 1)
+        self.by.shuffle(kinds)
+        letters = {"entry": "N", "procedure": "Q", "function": "K"}
+        return [(kind, self.fresh(letters[kind]), *self.formals(), self.often(0.85)) for kind in kinds]
+
+    def heading(self, kind, name, text):
+        return f"{kind} {name}{text}" + (" return Integer" if kind == "function" else "")
+
+    def object_head(self, name, operations, components, seen):
+        heads = [(is_seen, f"{self.heading(kind, operation, text)};") for kind, operation, _, text, is_seen in operations]
+        hidden, inner = [head for is_seen, head in heads if not is_seen], list(seen)
+        for _ in range(self.pick(1, 1, 1, 2) if any(kind == "entry" for kind, *_ in operations) else self.pick(0, 1)):
+            component = self.fresh("C")
+            value = "" if self.often(0.4) else f" := {self.pick(0, 1, 1, 2, self.number(inner, 1))}"
+            hidden.append(f"{component} : {self.pick('Integer', 'Integer', 'Natural')}{value};")
+            components.append(component)
+            inner.append(("variable", component))
+        shown = [head for is_seen, head in heads if is_seen]
+        return [f"protected {name} is"] + shown + (["private"] + hidden if hidden else []) + [f"end {name};"]
+
+    def operations_outside(self, name, operations):
+        found = []
+        for kind, operation, formals, _, is_seen in operations:
+            if is_seen:
+                modes = self.modes(formals)
+                found.append(("entry", (name, operation, modes)) if kind == "entry" else (kind, (f"{name}.{operation}", modes)))
+        return found
+
+    def object_body(self, name, operations, components, seen):
+        others = [it for it in self.without(seen, "label", "accept", "count") if it not in self.operations_outside(name, operations)]
+        if self.often(0.7):
+            others = self.without(others, "entry", "entries")
+        others += [("own", operation) for kind, operation, *_ in operations if kind == "entry"]
+        lines = [f"protected body {name} is"]
+        for kind, operation, formals, text, _ in self.by.sample(operations, len(operations)):
+            is_function = kind == "function"
+            inner = others + [("constant" if is_function else "variable", component) for component in components]
+            before = operations if self.often(0.05) else operations[: [it[1] for it in operations].index(operation)]
+            inner += self.operations_inside(name, before, is_function)
+            barrier = f" when {self.barrier(others, components)}" if kind == "entry" else ""
+            lines.append(f"{self.heading(kind, operation, text)}{barrier} is")
+            inner += self.seen_within(formals)
+            lines += self.operation_body(inner, components, kind, operation)
+        return lines + [f"end {name};"]
+
+    def operations_inside(self, name, operations, is_function):
+        found = []
+        for kind, operation, formals, *_ in operations:
+            if kind == "entry" and not is_function and self.often(0.1):
+                found.append(("entry", (name, operation, self.modes(formals))))
+            elif kind == "function" or kind == "procedure" and not is_function:
+                found.append((kind, (self.pick(operation, f"{name}.{operation}"), self.modes(formals))))
+        return found
+
+    def barrier(self, seen, components):
+        counts, component = self.named(seen, "own"), self.pick(*components, "1") if components else "1"
+        return self.pick(
+            f"{component} > 0", f"{component} > 0", f"{component} > 0", f"{component} > 1", f"{component} mod 2 = 1", f"{component} = 0",
+            f"{self.pick(*counts)}'Count {self.pick('>', '>=', '=')} {self.pick(1, 2)}", f"{self.pick(*counts)}'Count = 0", "False",
+            f"1 / {component} > 1", f"1 / ({component} - 1) > 1", self.truth(seen), self.shared(seen),
+        )
+
+    def shared(self, seen):
+        """A barrier over a variable that others change at any time."""
+        variables = self.named(seen, "variable")
+        return f"{self.pick(*variables)} mod 2 = {self.pick(0, 1)}" if variables else "True"
+
+    def operation_body(self, seen, components, kind, name):
+        lines = self.part(seen, 0) if self.often(0.2) else []
+        if self.often(0.05):
+            task = self.fresh("T")
+            lines += [f"task {task};", f"task body {task} is begin null; end {task};"]
+        lines.append("begin")
+        if kind != "function" and components and self.often(0.8):
+            component = self.pick(*components)
+            changed = f"{component} - 1" if kind == "entry" else f"{component} + 1"
+            lines.append(f"{component} := {changed if self.often(0.6) else self.pick('0', '0', '1', '2')};")
+        returns = "value" if kind == "function" else True
+        if self.often(0.6):
+            lines += self.statements(seen, 1, returns, False)
+        if kind == "function" and self.often(0.9):
+            lines.append(f"return {self.number(seen, 1)};")
+        elif lines[-1] == "begin":
+            lines.append("null;")
+        return lines + (self.handlers(seen, 1, returns) if self.often(0.2) else []) + [f"end {name};"]
+
+    def function_call(self, seen):
+        """None where there is none that can be called, or no variable for its value."""
+        functions, variables, arrays = self.named(seen, "function"), self.named(seen, "variable"), self.named(seen, "array")
+        if not functions or not variables:
+            return None
+        name, modes = self.pick(*functions)
+        target = f"{self.pick(*arrays)} ({self.number(seen, 1)})" if arrays and self.often(0.2) else self.pick(*variables)
+        return f"{target} := {name}{self.arguments(seen, modes, variables)};"
 
     # Statements.
 
@@ -217,6 +376,8 @@ class Writer:
 
     def statement(self, seen, depth, returns, handling):
         kind = self.by.random()
+        if self.with_objects and self.often(0.15) and (call := self.function_call(seen)):
+            return [call]
         if self.with_tasks and self.often(0.4 if self.named(seen, "entry", "entries") else 0.05):
             return self.tasking(seen, depth, returns, handling)
         if kind < 0.63 or depth <= 0:
@@ -241,7 +402,9 @@ class Writer:
             return self.call(seen, variables)
         if kind < 0.51:
             return "raise;" if handling and self.often(0.4) else f"raise {self.pick('Program_Error', *self.named(seen, 'exception'))};"
-        return "return;" if kind < 0.55 and returns else "null;"
+        if kind < 0.55 and returns:
+            return f"return {self.number(seen, 1)};" if returns == "value" else "return;"
+        return "null;"
 
     def text(self, seen):
         if self.often(0.5):
@@ -359,8 +522,12 @@ class Writer:
     def program(self):
         """Its lines: no string has a space, so any space may be a line's end."""
         seen = []
+        objects = self.variables(seen) + self.objects_together(seen) if self.with_objects else []
+        objects += self.store(seen) if self.with_objects and self.often(0.6) else []
         tasks = self.single_tasks(seen, 3) + self.client(seen) + self.client(seen) if self.with_tasks and self.often(0.7) else []
-        lines = ["procedure M is"] + tasks + self.part(seen, 3) + self.part(seen, 3) + self.body(seen, 3, True, " M")
+        for _ in range(self.pick(0, 1, 2, 3) if self.with_objects else 0):
+            tasks += self.client(seen)
+        lines = ["procedure M is"] + objects + tasks + self.part(seen, 3) + self.part(seen, 3) + self.body(seen, 3, True, " M")
         return "".join("\n" if it == " " and self.often(0.03) else it for it in "\n".join(lines)).split("\n")
 
 
@@ -397,6 +564,14 @@ def requests(by, with_tasks):
     return lines + ["RUN 20000", "MOVES", "TASKS", "VARS 1", "VARS 2", "OUTPUT", "CLOCK"] + (["CHOOSE 0"] if with_tasks else [])
 
 
+def misplaced(program, by):
+    """It with one of its statements once more behind another `begin`."""
+    begins = [place for place, line in enumerate(program, 1) if line == "begin"]
+    statements = [line for line in program if re.fullmatch(r"[A-Z]\w*(\.\w+)?( \(.*\))?( := .*)?;", line)]
+    place = by.choice(begins)
+    return program[:place] + [by.choice(statements or ["return;"])] + program[place:]
+
+
 def broken(program, by):
     """It with a name exchanged for another one, or with any word or sign left out, doubled, or exchanged."""
     parts = re.findall(r"\s+|\w+|[^\w\s]", "\n".join(program))
@@ -412,14 +587,14 @@ def load(program):
     return [f"LOAD {len(program)}"] + program
 
 
-def session(seed, with_tasks):
+def session(seed, with_tasks, with_objects=False):
     """The lines that are sent."""
-    program = Writer(seed, with_tasks).program()
+    program = Writer(seed, with_tasks, with_objects).program()
     while len(program) > LINES or any(len(line) > 1_000 for line in program):
         seed += 1_000_003
-        program = Writer(seed, with_tasks).program()
+        program = Writer(seed, with_tasks, with_objects).program()
     by = random.Random(seed)
     lines = load(program) + requests(by, with_tasks)
-    for _ in range(BROKEN):
-        lines += load(broken(program, by)) + ["RUN 100", "TASKS"]
+    for number in range(3 * BROKEN if with_objects else BROKEN):
+        lines += load(broken(program, by) if number < BROKEN else misplaced(program, by)) + ["RUN 100", "TASKS"]
     return lines + ["QUIT"]

@@ -3,8 +3,8 @@ from dataclasses import dataclass, field, replace
 from itertools import groupby
 
 from trees import (
-    Accept, Arrays, Assign, Attribute, Block, Call, Delay, Exceptions, Exit, If, Loop, Name, Number, Offer, Procedure, Raise, Return,
-    Select, String, Task, TaskBody, Unary,
+    Accept, Arrays, Assign, Attribute, Block, Call, Delay, Exceptions, Exit, If, Loop, Name, Number, Objects, Offer, Procedure, Protected,
+    ProtectedBody, Raise, Return, Select, String, Task, TaskBody, Unary,
 )
 
 TYPES = {"INTEGER": "number", "NATURAL": "number", "POSITIVE": "number", "BOOLEAN": "truth"}
@@ -16,15 +16,18 @@ GREATEST, DECIMALS = 2**31 - 1, 3
 
 @dataclass(eq=False)
 class Known:
-    """What a name is: type, variable, constant, array, task, tasks, task type, procedure, put, entry or exception. The type of its
-    values, if it has any; the formals of what is called; the task's declaration, that of an entry, too; the region of an entry's formals,
-    and within the body of a task that of its entries and declarations."""
+    """What a name is: type, variable, constant, array, task, tasks, task type, object, procedure, function, put, entry, exception, or
+    barred, as formals are in their barrier. The type of its values, or of a function's result, if it has any; the formals of what is
+    called; the declaration of the task or protected object, also that of an entry, an operation or a component; the region of an
+    operation's formals, and within the body or the declaration of a unit that of its entries, operations and declarations; the word for
+    a function's result."""
 
     kind: str
     type: str = None
     formals: list = field(default_factory=list)
-    unit: Task = None
+    unit: object = None
     region: "Region" = None
+    result: str = None
 
 
 class Region:
@@ -56,14 +59,22 @@ def predefined():
 @dataclass
 class Within:
     """What is around a statement: its names; the task whose body this is, if no procedure is between, and the entries that are being
-    accepted; the loops and blocks, innermost last, with their labels; whether it may return; whether it is handled here."""
+    accepted; the protected objects within whose bodies it is, and those within whose functions; the loops and blocks, innermost last,
+    with their labels; whether it may return, and the function from which it returns; whether it is handled here."""
 
     region: Region
     unit: Task = None
     accepting: tuple = ()
+    bodies: tuple = ()
+    functions: tuple = ()
     around: tuple = ()
     returns: bool = False
+    function: Known = None
     handles: bool = False
+
+    def body(self, region, **others):
+        """Of a procedure, an operation or a unit that is declared here."""
+        return Within(region, bodies=self.bodies, functions=self.functions, **others)
 
 
 def faults(program, tokens):
@@ -78,6 +89,7 @@ def faults(program, tokens):
 class Check:
     def __init__(self):
         self.found = []
+        self.regions = {}  # of the operations and components of each protected object
 
     def fault(self, code, place):
         self.found.append((place, code))
@@ -99,18 +111,25 @@ class Check:
             region.names[name] = None
 
     def part(self, declarations, within):
-        bodies = {}
+        tasks, objects = {}, {}
         for declaration in declarations:
             if isinstance(declaration, Task):
-                bodies[declaration.name] = self.task(declaration, within)
+                tasks[declaration.name] = self.task(declaration, within)
+            elif isinstance(declaration, Protected):
+                objects[declaration.name] = self.protected(declaration, within)
             elif isinstance(declaration, TaskBody):
-                if declaration.name not in bodies:
-                    self.fault(37, declaration.name.place)
-                self.task_body(declaration, bodies.pop(declaration.name, Known("task", unit=Task(declaration.name, False, []))), within)
+                self.task_body(declaration, self.declared(tasks, declaration.name, Task(declaration.name, False, [])), within)
+            elif isinstance(declaration, ProtectedBody):
+                self.protected_body(declaration, self.declared(objects, declaration.name, Protected(declaration.name, [])), within)
             else:
                 self.declaration(declaration, within)
-        for name in bodies:
+        for name in [*tasks, *objects]:
             self.fault(37, name.place)
+
+    def declared(self, units, name, nothing):
+        """That of this name, which has its body now."""
+        self.unless(name in units, 37, name.place)
+        return units.pop(name, None) or Known("task", unit=nothing, region=Region(None))
 
     def declaration(self, declaration, within):
         if isinstance(declaration, Procedure):
@@ -123,6 +142,19 @@ class Check:
             return
         known = self.known_of(declaration, within)
         region.names.update((name, known) for name in declaration.names)
+
+    def component(self, objects, protected, within):
+        self.begin(within.region, objects.names)
+        of = self.type_named(objects.subtype, within)
+        if objects.value:
+            self.has_type(objects.value, of, within)
+        within.region.names.update((name, Known("variable", of, unit=protected)) for name in objects.names)
+
+    def type_named(self, name, within):
+        """None where it is none, which is a fault."""
+        known = self.visible(name, within)
+        self.unless(not known or known.kind == "type", 32, name.place)
+        return known.type if known and known.kind == "type" else None
 
     def known_of(self, declaration, within):
         is_array = isinstance(declaration, Arrays)
@@ -140,20 +172,19 @@ class Check:
 
     def formals(self, formals, region):
         """In a region of their own; those of one subtype are declared together."""
-        for subtype, together in groupby(formals, lambda formal: formal.subtype.place):
+        for _, together in groupby(formals, lambda formal: formal.subtype.place):
             together = list(together)
             self.begin(region, [formal.name for formal in together])
-            of = self.visible(together[0].subtype, Within(region))
-            self.unless(not of or of.kind == "type", 32, subtype)
+            of = self.type_named(together[0].subtype, Within(region))
             kind = "constant" if together[0].mode == "in" else "variable"
-            region.names.update((formal.name, Known(kind, of.type if of and of.kind == "type" else None)) for formal in together)
+            region.names.update((formal.name, Known(kind, of)) for formal in together)
 
     def procedure(self, procedure, within):
         self.begin(within.region, [procedure.name])
         region = Region(within.region)
         self.formals(procedure.formals, region)
         within.region.names[procedure.name] = Known("procedure", formals=procedure.formals)
-        self.body(procedure.body, Within(region, returns=True), procedure.name)
+        self.body(procedure.body, within.body(region, returns=True), procedure.name)
 
     def task(self, task, within):
         self.begin(within.region, [task.name])
@@ -173,7 +204,60 @@ class Check:
         region = Region(outer)
         region.names.update(known.region.names if known.region else {})
         outer.names[task_body.name] = Known("task", unit=known.unit, region=region)
-        self.body(task_body.body, Within(region, known.unit), task_body.name)
+        self.body(task_body.body, within.body(region, unit=known.unit), task_body.name)
+
+    def protected(self, protected, within):
+        self.begin(within.region, [protected.name])
+        region = self.regions[protected] = Region(within.region)
+        known = within.region.names[protected.name] = Known("object", unit=protected, region=region)
+        inside = replace(within, region=region, unit=None)
+        for item in protected.items:
+            if isinstance(item, Objects):
+                self.component(item, protected, inside)
+            else:
+                self.begin(region, [item.name])
+                region.names[item.name] = self.operation(item, protected, region)
+        self.closes(protected, protected.name)
+        within.region.names[protected.name] = Known("object", unit=protected)
+        return known
+
+    def operation(self, operation, protected, region):
+        formals = Region(region)
+        self.formals(operation.formals, formals)
+        of = self.type_named(operation.result, Within(formals)) if operation.result else None
+        return Known(operation.kind, of, operation.formals, protected, formals, operation.result)
+
+    def protected_body(self, body, known, within):
+        outer = Region(within.region)
+        region = Region(outer)
+        region.names.update(self.regions.setdefault(known.unit, Region(None)).names)
+        outer.names[body.name] = Known("object", unit=known.unit, region=region)
+        inside = replace(within, region=region, bodies=(*within.bodies, known.unit))
+        bodiless = known.unit.operations()
+        for operation in body.operations:
+            declared = next((it for it in bodiless if (it.kind, it.name) == (operation.kind, operation.name)), None)
+            self.unless(declared, 37, operation.name.place)
+            self.operation_body(operation, declared and region.names[declared.name], known.unit, inside)
+            bodiless = [it for it in bodiless if it is not declared]
+        for operation in bodiless:
+            self.fault(37, operation.name.place)
+        self.closes(body, body.name)
+
+    def operation_body(self, operation, declared, protected, within):
+        heading = Region(within.region)
+        if operation.kind != "entry":
+            heading.names[operation.name] = None
+        known = self.operation(operation, protected, heading)
+        self.unless(not declared or self.conform(declared, known), 39, operation.name.place)
+        region = Region(within.region)
+        if operation.barrier:
+            region.names.update((formal.name, Known("barred")) for formal in operation.formals)
+            self.has_type(operation.barrier, "truth", within.body(region))
+        region.names.update(known.region.names)
+        is_function = operation.kind == "function"
+        functions = within.functions + ((protected,) if is_function else ())
+        inside = replace(within.body(region, returns=True, function=known if is_function else None), functions=functions)
+        self.body(operation.body, inside, operation.name)
 
     def closes(self, construct, name):
         self.unless(construct.closing in (None, name), 36, construct.closing and construct.closing.place)
@@ -211,7 +295,7 @@ class Check:
     def statement(self, statement, within):
         if isinstance(statement, Assign):
             of = self.variable(statement.target, within)
-            self.has_type(statement.value, of, within)
+            self.has_type(statement.value, of, within, True)
         elif isinstance(statement, If):
             for condition, statements, _ in statement.arms:
                 self.has_type(condition, "truth", within)
@@ -225,9 +309,9 @@ class Check:
         elif isinstance(statement, Exit):
             self.exit(statement, within)
         elif isinstance(statement, Return):
-            self.unless(within.returns and not statement.value, 41, statement.place)
+            self.unless(within.returns and bool(statement.value) == bool(within.function), 41, statement.place)
             if statement.value:
-                self.type(statement.value, within)
+                self.has_type(statement.value, within.function and within.function.type, within)
         elif isinstance(statement, Raise):
             self.raises(statement, within)
         elif isinstance(statement, Call):
@@ -289,21 +373,22 @@ class Check:
         self.formals(accept.formals, region)
         if known and known.kind == "entry":
             self.unless(known.unit is within.unit and accept.name not in within.accepting, 38, accept.name.place)
-            self.unless(self.conform(known, accept.formals, region), 39, accept.name.place)
+            self.unless(self.conform(known, Known("accept", formals=accept.formals, region=region)), 39, accept.name.place)
         elif known:
             self.fault(32, accept.name.place)
         if accept.body:
-            inside = replace(within, region=region, accepting=(*within.accepting, accept.name), around=(), returns=True)
+            inside = replace(within, region=region, accepting=(*within.accepting, accept.name), around=(), returns=True, function=None)
             self.body(accept.body, inside, accept.name)
 
-    def conform(self, entry, formals, region):
-        """Those of a faulty subtype agree with any."""
+    def conform(self, known, other):
+        """A formal or a result of a faulty subtype agrees with any."""
 
-        def agree(one, other):
-            is_known = entry.region.names[one.name].type and region.names[other.name].type
-            return (one.name, one.mode) == (other.name, other.mode) and (not is_known or one.subtype == other.subtype)
+        def agree(one, two):
+            is_known = known.region.names[one.name].type and other.region.names[two.name].type
+            return (one.name, one.mode) == (two.name, two.mode) and (not is_known or one.subtype == two.subtype)
 
-        return len(entry.formals) == len(formals) and all(map(agree, entry.formals, formals))
+        is_result_same = known.result == other.result or not (known.type and other.type)
+        return is_result_same and len(known.formals) == len(other.formals) and all(map(agree, known.formals, other.formals))
 
     def call(self, name, within, is_offer=False):
         known = self.resolved(name, within)
@@ -312,20 +397,24 @@ class Check:
         if known.kind in ("array", "tasks") and name.arguments and not self.element(known, name, within):
             return
         if known.kind not in ("procedure", "put", "entry"):
-            self.fault(32, name.name.place)
+            self.fault(44 if known.kind == "function" else 32, name.name.place)
             return
         self.unless(known.kind == "entry" or not is_offer, 49, name.name.place)
-        count = TEXTS[name.name] if known.kind == "put" else len(known.formals)
-        if count != len(name.arguments):
+        self.unless(not known.unit or known.unit not in within.functions, 47, name.name.place)
+        self.arguments(known, name, within)
+
+    def arguments(self, known, name, within):
+        """Whether they are right."""
+        if (TEXTS[name.name] if known.kind == "put" else len(known.formals)) != len(name.arguments):
             self.fault(34, name.name.place)
-        elif known.kind == "put":
-            for text in name.arguments:
-                self.has_type(text, "text", within)
-        else:
-            for formal, argument in zip(known.formals, name.arguments):
-                self.argument(formal, argument, within)
+            return False
+        if known.kind == "put":
+            return all([self.has_type(text, "text", within) for text in name.arguments])
+        return all([self.argument(formal, argument, within) for formal, argument in zip(known.formals, name.arguments)])
 
     def argument(self, formal, argument, within):
+        """Whether it is right; where its type is not known, too."""
+        before = len(self.found)
         of = TYPES.get(formal.subtype)
         if formal.mode == "in":
             self.has_type(argument, of, within)
@@ -334,12 +423,16 @@ class Check:
             self.unless(not given or given == of, 33, argument.first)
         elif self.has_type(argument, of, within):
             self.fault(35, argument.first)
+        return len(self.found) == before
 
     # Names.
 
     def visible(self, name, within):
         known = within.region.find(name)
         self.unless(known, 30, name.place)
+        if known and known.kind == "barred":
+            self.fault(48, name.place)
+            return None
         return known
 
     def resolved(self, name, within):
@@ -352,16 +445,21 @@ class Check:
         known = self.visible(before.name, within)
         if not known or known.kind in ("array", "tasks") and before.arguments and not self.element(known, before, within):
             return None
+        if known.kind == "object" and not before.arguments:
+            return self.of_object(known, name, within)
         if known.kind != ("tasks" if before.arguments else "task"):
-            self.fault(32, before.name.place)
+            self.fault(44 if known.kind == "function" else 32, before.name.place)
             return None
         return self.of_task(known, name)
 
     def of_library(self, name):
-        if [before.name for before in name.prefix] != ["ADA", "TEXT_IO"]:
-            self.fault(30, name.prefix[0].name.place)
-        elif name.name not in TEXTS:
-            self.fault(30, name.name.place)
+        library, unit, *behind = [*name.prefix, name]
+        if unit.name != "TEXT_IO" or library.arguments or unit.arguments or not behind:
+            self.fault(30, library.name.place)
+        elif behind[0].name not in TEXTS:
+            self.fault(30, behind[0].name.place)
+        elif behind[0] is not name:
+            self.fault(32, behind[0].name.place)
         else:
             return Known("put")
         return None
@@ -374,6 +472,17 @@ class Check:
             return Known("entry", formals=entry.formals, unit=task.unit if task.region else None)
         is_own = task.region and task.region.names.get(behind.name)
         self.fault(32 if entry or is_own else 30, behind.name.place)
+        return None
+
+    def of_object(self, known, name, within):
+        """An operation, behind the first point; from outside the object one that is not private."""
+        behind = [*name.prefix[1:], name][0]
+        seen = behind.name in [operation.name for operation in known.unit.items[: known.unit.visible]]
+        named = self.regions[known.unit].names.get(behind.name) if known.region or seen else None
+        if named and behind is name and named.kind in ("entry", "procedure", "function"):
+            return named
+        is_hidden = not named or named.kind == "variable" and known.unit not in within.bodies
+        self.fault(30 if is_hidden else 44 if named.kind == "function" else 32, behind.name.place)
         return None
 
     def element(self, known, name, within):
@@ -390,6 +499,8 @@ class Check:
             return None
         if known.kind == "constant" and not name.arguments:
             self.fault(35, name.first)
+        if known.kind == "variable" and known.unit and known.unit in within.functions:
+            self.fault(47, name.name.place)
         return self.value(known, name, within)
 
     def value(self, known, name, within):
@@ -398,16 +509,26 @@ class Check:
             return known.type if self.element(known, name, within) else None
         if known.kind in ("variable", "constant") and not name.arguments:
             return known.type
-        self.fault(32, name.name.place)
+        self.fault(44 if known.kind == "function" else 32, name.name.place)
         return None
 
     # Expressions.
 
-    def has_type(self, expression, wanted, within):
+    def has_type(self, expression, wanted, within, is_assigned=False):
         """Whether it has, where this is asked and no fault in it."""
-        given = self.type(expression, within)
+        given = self.assigned(expression, within) if is_assigned else self.type(expression, within)
         self.unless(not given or not wanted or given == wanted, 33, expression.first)
         return given and (not wanted or given == wanted)
+
+    def assigned(self, expression, within):
+        """The type of the right side of an assignment, which may be the call of a function."""
+        known = None
+        if isinstance(expression, Name) and not expression.is_parenthesized:
+            known = self.resolved(expression, within)
+            if not known or known.kind != "function":
+                return known and self.value(known, expression, within)
+            return known.type if self.arguments(known, expression, within) else None
+        return self.type(expression, within)
 
     def type(self, expression, within):
         """None where it has a fault."""
@@ -441,8 +562,11 @@ class Check:
         known = self.resolved(name, within)
         if not known:
             return None
+        if known.kind == "function":
+            self.fault(44, name.name.place)
+            return None
         if word == "COUNT" and known.kind == "entry" and not name.arguments:
-            self.unless(known.unit and known.unit is within.unit, 38, name.name.place)
+            self.unless(known.unit and (known.unit is within.unit or known.unit in within.bodies), 38, name.name.place)
             return self.without_argument(attribute, "number")
         if word == "IMAGE":
             return self.image(attribute, known, within)

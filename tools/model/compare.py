@@ -1,5 +1,6 @@
 """Compares the answers of the model with those of sessions that are written down, and with those of `aud --solo` on programs made by
-chance. tools/check calls it, with the program, the first seed and how many seeds to take, and `tasks` where the programs may have tasks."""
+chance. tools/check calls it, with the program, the first seed and how many seeds to take, and `tasks` where the programs may have tasks,
+`protected` where they have protected objects too."""
 import re
 import subprocess
 import sys
@@ -46,10 +47,10 @@ def compare_sessions():
     return other
 
 
-def compare_programs(program, first, count, with_tasks):
+def compare_programs(program, first, count, kind):
     other = refused = 0
     for seed in range(first, first + count):
-        sent = chance.session(seed, with_tasks)
+        sent = chance.session(seed, kind != "", kind == "protected")
         behind = int(sent[0].split()[1]) + 1
         sent[behind:behind] = [f"SEAT {seed * 4_999 % 20_000:05}"] * (seed % 3 == 0)
         sent = "".join(line + "\n" for line in sent)
@@ -68,5 +69,5 @@ if __name__ == "__main__":
     sys.setrecursionlimit(100_000)
     differ = compare_sessions()
     if len(sys.argv) > 1:
-        differ += compare_programs(sys.argv[1], int(sys.argv[2]), int(sys.argv[3]), "tasks" in sys.argv[4:])
+        differ += compare_programs(sys.argv[1], int(sys.argv[2]), int(sys.argv[3]), "".join(sys.argv[4:]))
     sys.exit(differ > 0)

@@ -5,7 +5,9 @@ from state import Array, Running
 def status(machine, task):
     if task.status != "running":
         return task.status
-    return "master" if machine.is_held(task) else "ready"
+    if task.serving:
+        return "ready"
+    return "master" if machine.is_held(task) else "object" if task.next.waits_for_object(task) else "ready"
 
 
 def line(task):
@@ -22,11 +24,13 @@ def tasks(machine):
 
 def queues(machine):
     numbers = {id(task): number for number, task in enumerate(machine.tasks, 1)}
+    called = [("task", number, task) for number, task in enumerate(machine.tasks, 1)]
+    called += [("object", number, protected) for number, protected in enumerate(machine.objects, 1)]
     lines = []
-    for number, task in enumerate(machine.tasks, 1):
-        for entry, calls in task.queues.items():
+    for kind, number, unit in called:
+        for entry, calls in unit.queues.items():
             if calls:
-                lines.append(f"task {number} {task.name}.{entry}:" + "".join(f" {numbers[id(call.caller)]}" for call in calls))
+                lines.append(f"{kind} {number} {unit.name}.{entry}:" + "".join(f" {numbers[id(call.caller)]}" for call in calls))
     return lines
 
 

@@ -2,7 +2,8 @@
 from tokens import Fault, Token, tokens, word
 from trees import (
     Accept, Alternative, Arrays, Assign, Attribute, Binary, Block, Body, Call, Delay, Entry, Exceptions, Exit, Formal, If, Loop, Name,
-    Null, Number, Objects, Offer, Procedure, Raise, Range, Return, Select, String, Task, TaskBody, Terminate, Unary,
+    Null, Number, Objects, Offer, Operation, Procedure, Protected, ProtectedBody, Raise, Range, Return, Select, String, Task, TaskBody,
+    Terminate, Unary,
 )
 
 LEVELS = 200
@@ -113,7 +114,7 @@ class Reader:
         return self.ends(self.body(declarations))
 
     def part(self):
-        if not self.is_name() and not self.stands("procedure", "task"):
+        if not self.is_name() and not self.stands("procedure", "task", "protected"):
             return []
         self.opened()
         declarations = []
@@ -173,6 +174,8 @@ class Reader:
             return self.procedure()
         if self.has("task"):
             return self.task()
+        if self.has("protected"):
+            return self.protected()
         names = self.names()
         self.take(":")
         if self.has("exception"):
@@ -180,7 +183,10 @@ class Reader:
             return Exceptions(names)
         if self.has("array"):
             return self.arrays(names)
-        is_constant, subtype, value = self.has("constant"), self.take_name(), None
+        return self.objects(names, self.has("constant"))
+
+    def objects(self, names, is_constant):
+        subtype, value = self.take_name(), None
         if is_constant or self.stands(":="):
             self.take(":=")
             value = self.expression()
@@ -205,6 +211,51 @@ class Reader:
         entry = Entry(self.take_name(), self.formals_if())
         self.take(";")
         return entry
+
+    def protected(self):
+        if self.has("body"):
+            return self.protected_body()
+        protected = Protected(self.take_name(), [])
+        self.take("is")
+        protected.items += self.operations()
+        protected.visible = len(protected.items)
+        if self.has("private"):
+            while self.is_name() or self.stands("entry", "procedure", "function"):
+                protected.items += [self.placed(self.component)] if self.is_name() else self.operations()
+        self.take("end")
+        return self.ends(protected)
+
+    def component(self):
+        names = self.names()
+        self.take(":")
+        return self.objects(names, False)
+
+    def operations(self):
+        operations = []
+        while self.stands("entry", "procedure", "function"):
+            operations.append(self.operation())
+            self.take(";")
+        return operations
+
+    def operation(self):
+        operation = Operation(self.take_any(), self.take_name(), self.formals_if())
+        if operation.kind == "function":
+            self.take("return")
+            operation.result = self.take_name()
+        return operation
+
+    def protected_body(self):
+        protected_body = ProtectedBody(self.take_name(), [])
+        self.take("is")
+        while self.stands("entry", "procedure", "function"):
+            operation = self.operation()
+            if operation.kind == "entry":
+                self.take("when")
+                operation.barrier = self.expression()
+            operation.body = self.behind_is()
+            protected_body.operations.append(operation)
+        self.take("end")
+        return self.ends(protected_body)
 
     def arrays(self, names):
         self.open_parenthesis()
@@ -402,21 +453,21 @@ class Reader:
         binary.first = left.first
         return binary
 
-    def operator(self):
+    def take_any(self):
         self.at += 1
         return self.tokens[self.at - 1].text
 
     def chain(self, marks, operand):
         left = operand()
         while self.stands(*marks):
-            left = self.from_left(self.operator(), left, operand())
+            left = self.from_left(self.take_any(), left, operand())
         return left
 
     def expression(self):
         """All its connectives are the same."""
         left, first = self.relation(), None
         while self.stands(first.split()[0]) if first else self.stands("and", "or", "xor"):
-            operator = self.operator()
+            operator = self.take_any()
             second = {"and": "then", "or": "else"}.get(operator)
             if first and " " in first:
                 self.take(second)
@@ -429,19 +480,19 @@ class Reader:
     def relation(self):
         left = self.simple()
         if self.stands("=", "/=", "<", "<=", ">", ">="):
-            return self.from_left(self.operator(), left, self.simple())
+            return self.from_left(self.take_any(), left, self.simple())
         return left
 
     def simple(self):
         place, sign = self.next().place, None
         if self.stands("-", "+"):
-            sign = self.operator()
+            sign = self.take_any()
         left = self.term()
         if sign:
             left = Unary(sign, left)
             left.first = place
         while self.stands("+", "-", "&"):
-            left = self.from_left(self.operator(), left, self.term())
+            left = self.from_left(self.take_any(), left, self.term())
         return left
 
     def term(self):
@@ -451,7 +502,7 @@ class Reader:
         place = self.next().place
         if not self.stands("abs", "not"):
             return self.primary()
-        unary = Unary(self.operator(), self.primary())
+        unary = Unary(self.take_any(), self.primary())
         unary.first = place
         return unary
 

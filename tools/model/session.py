@@ -19,7 +19,8 @@ REFUSALS = {
     20: "lexical", 21: "syntax", 23: "too deep", 30: "name not declared", 31: "declared twice", 32: "wrong kind of name", 33: "wrong type",
     34: "wrong number of arguments", 35: "not a variable", 36: "wrong name at end", 37: "no matching body",
     38: "accept or Count out of place", 39: "formals do not conform", 40: "exit without loop", 41: "return out of place",
-    42: "raise without handler", 43: "bad handler choice", 45: "number too large", 46: "too many decimals", 49: "not an entry",
+    42: "raise without handler", 43: "bad handler choice", 44: "function call out of place", 45: "number too large",
+    46: "too many decimals", 47: "change within a function", 48: "parameter in barrier", 49: "not an entry",
 }
 
 

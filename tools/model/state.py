@@ -1,12 +1,12 @@
 """What a program under way is made of: values, frames, tasks, their calls and their steps."""
 from dataclasses import dataclass, field
 
-from trees import Entry, Procedure, TaskBody
+from trees import Entry, Operation, Procedure, TaskBody
 
 LOWEST, HIGHEST = -(2**31), 2**31 - 1
 FIRST = {"INTEGER": LOWEST, "NATURAL": 0, "POSITIVE": 1}
 NEAREST_ZERO = {"INTEGER": 0, "NATURAL": 0, "POSITIVE": 1, "BOOLEAN": False}
-OUTPUT, TASKS, FRAMES, ELEMENTS = 65_536, 64, 128, 1_024
+OUTPUT, TASKS, OBJECTS, FRAMES, ELEMENTS = 65_536, 64, 64, 128, 1_024
 
 
 class AdaException(Exception):
@@ -25,7 +25,10 @@ class Leaving(Exception):
 
 
 class Returning(Exception):
-    """To the end of a procedure."""
+    """To the end of a procedure, or of a function with its value."""
+
+    def __init__(self, value=None):
+        self.value = value
 
 
 def constraint_error():
@@ -38,6 +41,10 @@ def storage_error():
 
 def tasking_error():
     return AdaException("TASKING_ERROR")
+
+
+def program_error():
+    return AdaException("PROGRAM_ERROR")
 
 
 def within(low, value, high):
@@ -110,6 +117,8 @@ class TaskType:
 
 @dataclass
 class Callee:
+    """A procedure, or the body of an operation."""
+
     procedure: Procedure
     scope: "Scope"
 
@@ -122,6 +131,37 @@ class TaskEntry:
     entry: Entry
 
 
+@dataclass(eq=False)
+class ProtectedObject:
+    """Its operations by their names; what its bodies see, and these once they are declared; the calls queued on its entries, oldest
+    first; the tasks that have an action on it under way, and whether that is of a function."""
+
+    name: str
+    operations: dict
+    scope: "Scope"
+    bodies: dict = field(default_factory=dict)
+    queues: dict = field(default_factory=dict)
+    actions: dict = field(default_factory=dict)
+
+    def __post_init__(self):
+        self.queues = {name: [] for name, operation in self.operations.items() if operation.kind == "entry"}
+
+
+@dataclass
+class Inside:
+    """A protected object, as its own body names it."""
+
+    object: ProtectedObject
+
+
+@dataclass
+class Own:
+    """An operation, as the body of its object sees it."""
+
+    object: ProtectedObject
+    operation: Operation
+
+
 @dataclass
 class Declared:
     """An exception."""
@@ -130,8 +170,12 @@ class Declared:
 
 
 class Scope:
-    def __init__(self, outer):
-        self.outer, self.names = outer, {}
+    def __init__(self, outer, names=()):
+        self.outer, self.names = outer, dict(names)
+
+    def so_far(self):
+        """What a body sees that stands here: none of the later declarations."""
+        return Scope(self.outer, self.names)
 
     def find(self, name):
         scope = self
@@ -144,23 +188,33 @@ class Scope:
 
 @dataclass(eq=False)
 class Frame:
-    """Of a body, block, procedure, loop or accept; its variables so far, each with its name."""
+    """Of a body, block, procedure, loop, accept, operation or entry; its variables so far, each with its name."""
 
     kind: str
     variables: list = field(default_factory=list)
 
     @property
     def is_master(self):
-        return self.kind not in ("loop", "accept")
+        return self.kind in ("body", "block", "procedure")
+
+    @property
+    def is_counted(self):
+        return self.kind not in ("accept", "entry")
 
 
 @dataclass
 class Waits:
-    """What a blocked task waits for: entries and times, each with the number of its alternative, if it is one; or its end."""
+    """What a blocked task waits for: entries and times, each with the number of its alternative, if it is one; or its end. The object
+    on whose entry it waits, if it does."""
 
     accepts: list = field(default_factory=list)
     delays: list = field(default_factory=list)
     terminates: bool = False
+    object: ProtectedObject = None
+
+    def times(self):
+        """Those that may come."""
+        return [] if self.object and self.object.actions else self.delays
 
     def is_open(self):
         return self.accepts or self.delays or self.terminates
@@ -168,13 +222,14 @@ class Waits:
 
 @dataclass(eq=False)
 class EntryCall:
-    """Its formals by their names, the variables that some are copied back to, and the queue of its entry. It is over, or cancelled,
-    or neither; an exception may have ended it."""
+    """Also of another operation. Its formals by their names, the variables that some are copied back to, the queue of its entry, and
+    where a function's value goes. It is over, or cancelled, or neither; an exception may have ended it."""
 
     caller: "Running"
     formals: dict
     copies: list
     queue: list
+    target: object = None
     is_over: bool = False
     is_cancelled: bool = False
     exception: AdaException = None
@@ -184,7 +239,7 @@ class EntryCall:
 class Running:
     """A task: its open frames, the masters that it depends on, the declarative part that created it, who waits for its activation and
     whether an activation that it waits for has failed; its steps and the next one; what it waits for where it is blocked; the calls
-    queued on its entries, oldest first; its own call."""
+    queued on its entries, oldest first; its own call; how many bodies of entries it is serving."""
 
     name: str
     status: str
@@ -200,6 +255,7 @@ class Running:
     waits: Waits = None
     queues: dict = field(default_factory=dict)
     call: EntryCall = None
+    serving: int = 0
 
     def __post_init__(self):
         self.queues = {entry.name: [] for entry in self.task_type.entries}
@@ -219,12 +275,20 @@ class Running:
 
 @dataclass
 class Step:
-    """The master that it leaves, if it leaves one; what tells the alternatives among which it has a move for each."""
+    """The master that it leaves, if it leaves one; what tells the alternatives among which it has a move for each; the object on which
+    it starts an action, if it does, and whether that is of a function."""
 
     kind: str
     line: int
     master: Frame = None
     alternatives: object = None
+    object: ProtectedObject = None
+    is_function: bool = False
+
+    def waits_for_object(self, task):
+        return self.object is not None and any(
+            other is not task and not (self.is_function and is_function) for other, is_function in self.object.actions.items()
+        )
 
 
 @dataclass

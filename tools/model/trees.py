@@ -30,14 +30,14 @@ class String(Expression):
 
 @dataclass
 class Name(Expression):
-    """With its arguments or index, if it has any, and the names before its points: of a task, or `Ada.Text_IO`."""
+    """With its arguments or index, if it has any, and the names before its points: of a task or protected object, or `Ada.Text_IO`."""
 
     name: str
     arguments: list = field(default_factory=list)
     prefix: list = field(default_factory=list)
 
     @property
-    def task(self):
+    def before(self):
         return self.prefix[0] if len(self.prefix) == 1 else None
 
     @property
@@ -138,6 +138,37 @@ class Task(Placed, End):
 class TaskBody(Placed):
     name: str
     body: Body
+
+
+@dataclass
+class Operation:
+    """Of a protected object: an entry, a procedure or a function, which has a result; with what it does, and an entry with its barrier,
+    where this is its body."""
+
+    kind: str
+    name: str
+    formals: list
+    result: str = None
+    barrier: object = None
+    body: Body = None
+
+
+@dataclass(eq=False)
+class Protected(Placed, End):
+    """Its operations and the declarations of its components in the order of the text; how many of them others see."""
+
+    name: str
+    items: list
+    visible: int = 0
+
+    def operations(self):
+        return [item for item in self.items if isinstance(item, Operation)]
+
+
+@dataclass
+class ProtectedBody(Placed, End):
+    name: str
+    operations: list
 
 
 @dataclass

@@ -5,7 +5,7 @@ use Rattle.aud_text.specs.declared.place.Pos.{Pos}
 use Rattle.aud_syntax.specs.declared.tree.Ident.{Ident}
 use Rattle.aud_syntax.specs.declared.tree.Bound.{Bound}
 use Rattle.aud_syntax.specs.Plain as plain
-use Rattle.aud_syntax.specs.Plain.{EntryDeclaration, Accept, accept, Doing, without_do, with_do, Alternative, accept_alternative, delay_alternative, terminate_alternative, Alternatives, no_alternatives, more_alternatives, Otherwise, or_delay, or_else, MaybeExpression, no_expression, an_expression, Declaration, object, constant, array, exception, procedure, task, task_body, protected, protected_body, no_declarations, more_declarations, Statement, null, assign, call, if_then, loop, exit, block, return, raise, accepting, delaying, select_accept, select_call, abort, requeue, Arms, no_arms, more_arms, Iteration, forever, while, for, Statements, in_order, MoreStatements, no_statements, more_statements, Declarations, Body, body, Handlers, no_handlers, more_handlers}
+use Rattle.aud_syntax.specs.Plain.{EntryDeclaration, Accept, accept, Doing, without_do, with_do, Alternative, accept_alternative, delay_alternative, terminate_alternative, Alternatives, no_alternatives, more_alternatives, Otherwise, or_delay, or_else, MaybeExpression, no_expression, an_expression, Declaration, object, constant, array, exception, procedure, task, task_body, protected, protected_body, OperationBody, entry_body, procedure_body, function_body, OperationBodies, no_bodies, more_bodies, no_declarations, more_declarations, Statement, null, assign, call, if_then, loop, exit, block, return, raise, accepting, delaying, select_accept, select_call, abort, requeue, Arms, no_arms, more_arms, Iteration, forever, while, for, Statements, in_order, MoreStatements, no_statements, more_statements, Declarations, Body, body, Handlers, no_handlers, more_handlers}
 use Rattle.aud_typed.specs.declared.program.ArrayAt.{ArrayAt}
 use Rattle.aud_typed.specs.declared.program.Exception.{Exception}
 use Rattle.aud_typed.specs.declared.program.Subtype.{Subtype}
@@ -18,16 +18,27 @@ use Rattle.aud_names.specs.declared.names.Meaning.{Meaning}
 use Rattle.aud_names.specs.declared.names.Meaning.TheVariants as meaning
 use Rattle.aud_names.specs.declared.array.Kind.{Kind}
 use Rattle.aud_names.specs.declared.awaited.Awaited.{Awaited}
-use Rattle.aud_names.specs.Names.{Region, Place, main_place, visible, in_frame, innermost, place_in, task_place, body_frame, is_declared}
+use Rattle.aud_names.specs.declared.awaited.AwaitedObject.{AwaitedObject}
+use Rattle.aud_names.specs.declared.awaited.AwaitedPart.{AwaitedPart}
+use Rattle.aud_names.specs.declared.names.Operation.{Operation}
+use Rattle.aud_names.specs.declared.parts.PartKind.{PartKind}
+use Rattle.aud_names.specs.declared.parts.PartKind.TheVariants as part
+use Rattle.aud_names.specs.Objects.{awaited_parts}
+use Rattle.aud_names.specs.Names.{Region, Place, main_place, visible, in_frame, innermost, place_in, task_place, body_frame, is_declared, is_inside}
 use Rattle.aud_names.specs.declared.resolution.Denoted.{Denoted}
 use Rattle.aud_names.specs.Arrays.{bound_value, or_zero, cells_of}
 use Rattle.aud_names.specs.Resolution.{resolved, name_ident, last_args}
 use Rattle.aud_typing.specs.Expressions.{Typed, string, Entity, no_entity, entity, element_of, task_of, checked_arguments, checked_expression}
 use Rattle.aud_check_bodies.specs.Accepts.{TypedAccept, accept_formals, accepted}
-use Rattle.aud_check_bodies.specs.Arguments.{all_passed}
+use Rattle.aud_check_bodies.specs.Arguments.{all_passed, reference_of}
 use Rattle.aud_check_bodies.specs.Assignments.{target_of, assigned_to, assigned_at, meaning_assigned, assigned}
-use Rattle.aud_check_bodies.specs.Calls.{EntryCalled, callee_meant, put_out, procedure_called, called, called_as, typed_call, entry_called, entry_call_of, selected_call}
+use Rattle.aud_check_bodies.specs.Calls.{EntryCalled, Whose, own_object, another, callee_meant, put_out, procedure_called, by_access, operation_called, called, called_as, typed_call, entry_called, entry_call_to, entry_call_of, selected_call}
+use Rattle.aud_check_bodies.specs.Values.{FunctionCalled, function_called, returned_into, value_assigned, typed_assign}
+use Rattle.aud_check_bodies.specs.declared.within.Leaves.{Leaves}
+use Rattle.aud_check_bodies.specs.Objects.{ObjectDeclared, one_operation, declared_operations, declared_components, declared_items, hidden_items, no_parts, object_awaited, object_behind, body_object, object_tables}
+use Rattle.aud_check_bodies.specs.Operations.{Head, of_entry, of_procedure, of_function, BodyPlaces, body_places, operation_place, shape_of, part_awaited, operation_unit, operation_kept, operation_tables, barrier_kept, barrier_of}
 use Rattle.aud_check_bodies.specs.declared.call.Callee.{Callee}
+use Rattle.aud_check_bodies.specs.declared.call.Callee.TheVariants as callee
 use Rattle.aud_check_bodies.specs.declared.call.Callee.TheVariants.{Procedure, Entry}
 use Rattle.aud_check_bodies.specs.Declarations.{Declared, objects_as, arrays_as, array_elaborations, task_elaborations, tasks_meant, task_type_meant, subtype_meant, arrays_kind, tasks_kind, marked}
 use Rattle.aud_check_bodies.specs.Entries.{Entries, no_entries, one_entry, entry_added, entry_formals, declared_entries, entries_of}
@@ -36,8 +47,8 @@ use Rattle.aud_check_bodies.specs.Programs as c
 use Rattle.aud_check_bodies.specs.Programs.{main_tables}
 use Rattle.aud_check_bodies.specs.Regions.{shown_names}
 use Rattle.aud_check_bodies.specs.Selects.{TypedAlternative, accepts, delays, terminates, alternatives_of, form_of}
-use Rattle.aud_check_bodies.specs.Statements.{in_accept, checked_accept, checked_doing, checked_alternative, checked_alternatives, checked_otherwise, Around, TypedStatements, sequence_of, TypedArm, arms_then, TypedHandler, handlers_of, TypedBody, body_with, typed_return, looped, begin_at, loop_place, loop_tables, labelled, handling, nothing_around, task_around, procedure_place, procedure_formals, checked_statement, checked_arms, checked_statements, checked_others, checked_body, checked_handlers, checked_declarations, checked_declaration, entered, begin_of}
-use Rattle.aud_check_bodies.specs.Tables.{Tables, Outcome, no_body, next_region, next_task, next_unit, region_kept, region_named, with_region, unit_kept, profile_of}
+use Rattle.aud_check_bodies.specs.Statements.{checked_bodies, checked_operation, checked_operation_of, operation_around, in_accept, checked_accept, checked_doing, checked_alternative, checked_alternatives, checked_otherwise, Around, TypedStatements, sequence_of, TypedArm, arms_then, TypedHandler, handlers_of, TypedBody, body_with, typed_return, looped, begin_at, loop_place, loop_tables, labelled, handling, nothing_around, task_around, procedure_place, procedure_formals, checked_statement, checked_arms, checked_statements, checked_others, checked_body, checked_handlers, checked_declarations, checked_declaration, entered, begin_of}
+use Rattle.aud_check_bodies.specs.Tables.{Tables, Outcome, no_body, next_region, next_task, next_object, next_unit, region_kept, region_named, with_region, unit_kept, profile_of}
 use Rattle.aud_check_bodies.specs.Tasks.{created_by, place_named, task_entries, body_tables, body_task, body_unit, task_awaited, place_behind, create_tasks, with_bodies, with_activation}
 
 abbrev EachDeclares : Bool → List tree.Statement → Type 0
@@ -90,9 +101,32 @@ in_procedure : (unit : ℕ) (at : Pos) (arguments : Option (List tree.Argument))
 in_procedure unit at None = tt
 in_procedure unit at (Some arguments) = tt
 
+in_operation : (into : Option tree.Reference) (o : Operation) (at : Pos) (arguments : Option (List tree.Argument)) → StatementDeclares false (operation_called o into at arguments)
+in_operation into o at None = tt
+in_operation into o at (Some arguments) = by (is_inside o.instance.access)
+  where
+    by : (inside : Bool) → StatementDeclares false (by_access inside o.instance at (record { unit = o.unit; arguments = arguments; into = into }))
+    by true = tt
+    by false = tt
+
+in_returned : (r : Option tree.Reference) (o : Operation) (at : Pos) (arguments : Option (List tree.Argument)) → StatementDeclares false (returned_into r o at arguments)
+in_returned None o at arguments = tt
+in_returned (Some r) o at arguments = in_operation (Some r) o at arguments
+
+in_assign : (n : plain.Name) (value : plain.Expression) (place : Place) (t : Tables) → StatementDeclares false (typed_assign n value place t)
+in_assign n value place t = by (function_called value place)
+  where
+    by : (f : Option FunctionCalled) → StatementDeclares false (value_assigned f value (target_of n place).entity (name_ident n).at place t)
+    by None = in_assigned (target_of n place).entity (name_ident n).at (checked_expression value place).typed
+    by (Some f) = in_returned (reference_of (target_of n place).entity) f.operation (name_ident n).at (all_passed (profile_of f.operation.unit t) (last_args f.name) place)
+
+in_call_to : (whose : Whose) (at : Pos) (e : ℕ) (arguments : List tree.Argument) (form : tree.CallForm) (behind otherwise : tree.Part) → PartDeclares false behind → PartDeclares false otherwise → StatementDeclares false (entry_call_to whose at e arguments form behind otherwise)
+in_call_to own_object at e arguments form behind otherwise h k = tt
+in_call_to (another c) at e arguments form behind otherwise h k = (h, k)
+
 in_entry_call : (at : Pos) (form : tree.CallForm) (behind otherwise : tree.Part) (c : Option EntryCalled) → PartDeclares false behind → PartDeclares false otherwise → StatementDeclares false (entry_call_of at form behind otherwise c)
 in_entry_call at form behind otherwise None h k = tt
-in_entry_call at form behind otherwise (Some c) h k = (h, k)
+in_entry_call at form behind otherwise (Some c) h k = in_call_to c.whose at c.entry c.arguments form behind otherwise h k
 
 in_typed_call : (n : plain.Name) (place : Place) (t : Tables) → StatementDeclares false (typed_call n place t)
 in_typed_call n place t = by (callee_meant (resolved n place).denoted.meaning)
@@ -100,6 +134,7 @@ in_typed_call n place t = by (callee_meant (resolved n place).denoted.meaning)
     by : (callee : Option Callee) → StatementDeclares false (called_as callee (resolved n place).denoted n place t)
     by None = in_called (resolved n place).denoted.meaning (name_ident n).at (checked_arguments n place).typed
     by (Some (Procedure unit)) = in_procedure unit (name_ident n).at (all_passed (profile_of unit t) (last_args n) place)
+    by (Some (callee.Operation o)) = in_operation None o (name_ident n).at (all_passed (profile_of o.unit t) (last_args n) place)
     by (Some (Entry e)) = in_entry_call (name_ident n).at tree.plainly tree.nothing tree.nothing (entry_called e n place t) tt tt
 
 in_raised : (at : Pos) (x : Option Exception) → StatementDeclares false (raised_by at x)
@@ -110,9 +145,9 @@ in_raise : (at : Pos) (name : Option Ident) (place : Place) → StatementDeclare
 in_raise at None place = tt
 in_raise at (Some i) place = in_raised at (exception_meant (visible i.name place))
 
-in_return : (at : Pos) (e : MaybeExpression) → StatementDeclares false (typed_return at e)
-in_return at no_expression = tt
-in_return at (an_expression e) = tt
+in_return : (at : Pos) (e : MaybeExpression) (l : Leaves) (place : Place) → StatementDeclares false (typed_return at e l place)
+in_return at no_expression l place = tt
+in_return at (an_expression e) l place = tt
 
 in_loop : (at next_at : Pos) (i : Iteration) (place : Place) (region : ℕ) (x : tree.Statement) → StatementDeclares false x → StatementDeclares false (looped at next_at i place region x)
 in_loop at next_at forever place region x h = h
@@ -248,10 +283,54 @@ loop_units forever place t h = h
 loop_units (while c) place t h = h
 loop_units (for i backward low high) place t h = h
 
+-- what objects declare
+
+operation_units : (number : ℕ) (is_private : Bool) (x : plain.Operation) (outer : List Region) (o : ObjectDeclared) → EachUnit o.tables.units → EachUnit (one_operation number is_private x outer o).tables.units
+operation_units number is_private (plain.entry_operation e) outer o h = unit_more o.tables.units h
+operation_units number is_private (plain.procedure_operation i fs) outer o h = unit_more o.tables.units h
+operation_units number is_private (plain.function_operation i fs mark) outer o h = unit_more o.tables.units h
+
+operations_units : (number : ℕ) (xs : List plain.Operation) (outer : List Region) (o : ObjectDeclared) → EachUnit o.tables.units → EachUnit (declared_operations number xs outer o).tables.units
+operations_units number [] outer o h = h
+operations_units number (x ∷ xs) outer o h = operations_units number xs outer (one_operation number false x outer o) (operation_units number false x outer o h)
+
+items_units : (number : ℕ) (xs : List plain.PrivateItem) (outer : List Region) (o : ObjectDeclared) → EachUnit o.tables.units → EachUnit (declared_items number xs outer o).tables.units
+items_units number [] outer o h = h
+items_units number (plain.private_operation x ∷ xs) outer o h = items_units number xs outer (one_operation number true x outer o) (operation_units number true x outer o h)
+items_units number (plain.components first others mark initial ∷ xs) outer o h = items_units number xs outer (declared_components number (first ∷ others) mark initial outer o) h
+
+-- bodies of their operations
+
+object_units : (found : Option AwaitedObject) (i : Ident) (t : Tables) → EachUnit t.units → EachUnit (object_tables found i t).units
+object_units None i t h = h
+object_units (Some o) i t h = h
+
+kept_units : (found : Option PartKind) (t : Tables) → EachUnit t.units → EachUnit (operation_kept found t).units
+kept_units None t h = unit_more t.units h
+kept_units (Some k) t h = h
+
+barrier_units : (found : Option PartKind) (b : Option tree.BooleanExpression) (t : Tables) → EachUnit t.units → EachUnit (barrier_kept found b t).units
+barrier_units (Some (part.Entry number unit)) (Some b) t h = h
+barrier_units (Some (part.Entry number unit)) None t h = h
+barrier_units (Some (part.Operation unit subprogram)) b t h = h
+barrier_units (Some (part.Component s)) b t h = h
+barrier_units None b t h = h
+
+operation_of_good : (head : Head) (at : Pos) (i : Ident) (fs : List plain.Formal) (ds : plain.Declarations) (b : Body) (o : BodyPlaces) (awaited : List AwaitedPart) (t : Tables) → EachUnit t.units
+    → ((p : Place) (u : Tables) → EachUnit u.units → Good Elaborates (checked_declarations ds p u)) → ((around : Around) (p : Place) (u : Tables) → EachUnit u.units → Good BodyIs (checked_body b around p u)) → EachUnit (checked_operation_of head at i fs ds b o awaited t).tables.units
+operation_of_good head at i fs ds b o awaited t h f g =
+    let here = operation_place head o in
+    let region = (shape_of head i fs here).region in
+    let found = part_awaited head i o awaited in
+    let kept = operation_tables head found region here t in
+    let around = operation_around head i fs here in
+    let x = entered_good false b (λ further t2. checked_declarations ds further t2) (λ further t2. checked_body b around further t2) (place_in region here.regions) kept f (g around) (barrier_units found (barrier_of head region here) (operation_kept found t) (kept_units found t h)) in
+    unit_set _ (operation_unit found t) _ x.units x.made
+
 mutual
   statement_good : (x : Statement) (around : Around) (place : Place) (t : Tables) → EachUnit t.units → Good (StatementDeclares false) (checked_statement x around place t)
   statement_good (null at) around place t h = record { made = tt; units = h }
-  statement_good (assign n value) around place t h = record { made = in_assigned (target_of n place).entity (name_ident n).at (checked_expression value place).typed; units = h }
+  statement_good (assign n value) around place t h = record { made = in_assign n value place t; units = h }
   statement_good (call n) around place t h = record { made = in_typed_call n place t; units = h }
   statement_good (if_then at c ss arms otherwise) around place t h =
       let x = statements_good ss around place t h in
@@ -265,7 +344,7 @@ mutual
   statement_good (block label at declare ds b) around place t h =
       let x = entered_good false b (λ inner t1. checked_declarations ds inner t1) (λ inner t1. checked_body b (labelled false label around) inner t1) (in_frame place) t (λ p u k. declarations_good ds p u k) (λ p u k. body_good b (labelled false label around) p u k) h in
       record { made = x.made; units = x.units }
-  statement_good (return at e) around place t h = record { made = in_return at e; units = h }
+  statement_good (return at e) around place t h = record { made = in_return at e around.leaves place; units = h }
   statement_good (raise at name) around place t h = record { made = in_raise at name place; units = h }
   statement_good (accepting x) around place t h =
       let a = accept_good x around place t h in
@@ -389,8 +468,26 @@ mutual
       let here = place_behind i place in
       let x = entered_good true b (λ further t2. checked_declarations ds further t2) (λ further t2. checked_body b task_around further t2) (task_place i.name (body_task found t) here) (body_tables found t) (λ p u k. declarations_good ds p u k) (λ p u k. body_good b task_around p u k) (none_awaited found t h) in
       record { made = tt; units = unit_set _ (body_unit found t) _ x.units x.made }
-  declaration_good (protected at i operations hidden last) place t h = record { made = tt; units = h }
-  declaration_good (protected_body at i inner last) place t h = record { made = tt; units = h }
+  declaration_good (protected at i operations hidden last) place t h =
+      let number = next_object t in
+      let first = declared_operations number operations place.regions (no_parts i.name place t) in
+      record { made = (tt, tt); units = items_units number (hidden_items hidden) place.regions first (operations_units number operations place.regions (no_parts i.name place t) h) }
+  declaration_good (protected_body at i inner last) place t h =
+      let found = object_awaited i place in
+      let here = object_behind i place in
+      let object = body_object found t in
+      record { made = tt; units = bodies_good inner (body_places i.name object here) (awaited_parts object (innermost here).parts) (object_tables found i t) (object_units found i t h) }
+
+  bodies_good : (xs : OperationBodies) (o : BodyPlaces) (awaited : List AwaitedPart) (t : Tables) → EachUnit t.units → EachUnit (checked_bodies xs o awaited t).tables.units
+  bodies_good no_bodies o awaited t h = h
+  bodies_good (more_bodies x xs) o awaited t h =
+      let first = checked_operation x o awaited t in
+      bodies_good xs o first.made first.tables (operation_good x o awaited t h)
+
+  operation_good : (x : OperationBody) (o : BodyPlaces) (awaited : List AwaitedPart) (t : Tables) → EachUnit t.units → EachUnit (checked_operation x o awaited t).tables.units
+  operation_good (entry_body at i fs barrier ds b) o awaited t h = operation_of_good (of_entry barrier) at i fs ds b o awaited t h (λ p u k. declarations_good ds p u k) (λ around p u k. body_good b around p u k)
+  operation_good (procedure_body at i fs ds b) o awaited t h = operation_of_good of_procedure at i fs ds b o awaited t h (λ p u k. declarations_good ds p u k) (λ around p u k. body_good b around p u k)
+  operation_good (function_body at i fs mark ds b) o awaited t h = operation_of_good (of_function mark) at i fs ds b o awaited t h (λ p u k. declarations_good ds p u k) (λ around p u k. body_good b around p u k)
 
 bodies_declare : (us : List tree.UnitBody) → EachUnit us → BodiesDeclare (map (λ (u : tree.UnitBody). u.body) us)
 bodies_declare [] h = tt

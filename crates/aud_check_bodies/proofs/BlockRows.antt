@@ -21,7 +21,7 @@ fault p refusal = record { at = p; refusal = refusal }
 
 -- in the main procedure, whose region is the first and empty
 abbrev main_tables : Tables
-main_tables = record { regions = [] ∷ []; exceptions = []; profiles = [] ∷ []; units = no_body ∷ []; tasks = []; entries = []; entry_profiles = [] }
+main_tables = record { regions = [] ∷ []; exceptions = []; profiles = [] ∷ []; units = no_body ∷ []; tasks = []; objects = []; entries = []; entry_profiles = [] }
 
 abbrev checked_in_main : Statement → Outcome tree.Statement
 checked_in_main s = checked_statement s nothing_around (main_place (codes "P")) main_tables

@@ -126,11 +126,11 @@ block_left r old named new t u label at declare ds b around place x y p h f g =
 pub unit_left : (old stated new : Option Fault) (t u : Tables) (of_task : Bool) (at : Pos) (name : List ℕ) (ds : m.Declarations) (b : m.Body) (place : Place) (x : tree.Body) (y : tree.UnitBody)
     → Is old stated u x (entered_body of_task ds b (around_unit of_task) place t)
     → new ≡ noted stated (right_name_at_end name (end_name b))
-    → y ≡ record { level = (innermost place).level; region = next_region t; at = at; body = x }
+    → y ≡ record { level = (innermost place).level; region = next_region t; is_function = false; at = at; body = x }
     → Is old new u y (checked_unit of_task at name ds b place t)
 unit_left old stated new t u of_task at name ds b place x y h q f =
     let whole : Outcome tree.Body = entered_body of_task ds b (around_unit of_task) place t in
-    let unit : tree.Body → tree.UnitBody = λ v. record { level = (innermost place).level; region = next_region t; at = at; body = v } in
+    let unit : tree.Body → tree.UnitBody = λ v. record { level = (innermost place).level; region = next_region t; is_function = false; at = at; body = v } in
     let next : tree.Body → Tables → Outcome tree.UnitBody = λ v w. after (right_name_at_end name (end_name b)) (fine (unit v) w) in
     is_then old stated new u u x y whole next h (is_after stated new new u y (right_name_at_end name (end_name b)) (fine (unit x) u) q (is_fine new u y (unit x) f))
 

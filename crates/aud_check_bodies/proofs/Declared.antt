@@ -1,16 +1,18 @@
 -- Declarations that are still to be checked.
 use denote.Ref.{Bor}
-use Rattle.std.specs.Prelude.{ℕ, Bool, List, [], ◌∷◌, ◌++◌, Option, Vec, Result, Ok, Err, IfOk, OnOk}
+use Rattle.std.specs.Prelude.{ℕ, Bool, true, false, not, List, [], ◌∷◌, ◌++◌, Option, Vec, Result, Ok, Err, IfOk, OnOk}
 use Rattle.std.specs.Global.{Global}
 use Rattle.std.specs.declared.alloc.AllocError.{AllocError}
 use Rattle.std.proofs.Common.{◌≡◌, refl, sym, ◌∙◌, ap, append_assoc, append-nil}
 use Rattle.aud_text.specs.declared.place.Pos.{Pos}
 use Rattle.aud_syntax.specs.declared.tree.Ident.{Ident}
-use Rattle.aud_syntax.specs.Plain.{TaskDefinition}
+use Rattle.aud_syntax.specs.Plain.{TaskDefinition, Operation, PrivateItem}
+use Rattle.aud_typed.specs.Tree.{declare_object}
 use Rattle.aud_typed.specs.Ties.View.{plain_statements as plain_typed_statements}
 use Rattle.aud_syntax.specs.declared.tree.Declaration.{Declaration}
 use Rattle.aud_syntax.specs.Ties.View.{plain_declarations, plain_declaration}
-use Rattle.aud_names.specs.Names.{Place, place_in}
+use Rattle.aud_names.specs.Names as names
+use Rattle.aud_names.specs.Names.{Place, place_in, is_declared}
 use Rattle.aud_names.specs.Rules.{declared_once, right_name_at_end}
 use Rattle.aud_names.specs.declared.names.NamedParameter.{NamedParameter}
 use Rattle.aud_names.specs.declared.names.Region.{Region}
@@ -18,10 +20,11 @@ use Rattle.aud_names.specs.Ties.Regions.{plain_region, plain_regions, plain_plac
 use Rattle.aud_check_bodies.specs.declared.declaration.DeclarativePart.{DeclarativePart}
 use Rattle.aud_fault.specs.declared.fault.Fault.{Fault}
 use Rattle.aud_fault.specs.Least.{noted}
-use Rattle.aud_check_bodies.specs.Tables.{Tables, Outcome, no_tables, next_task, next_unit, task_kept}
+use Rattle.aud_check_bodies.specs.Tables.{Tables, Outcome, fine, no_tables, next_task, next_unit, task_kept, next_object, object_kept}
 use Rattle.aud_check_bodies.specs.Entries.{entry_numbers, naming}
 use Rattle.aud_check_bodies.specs.Tasks.{name_behind, with_task, created_by, place_named, task_entries, task_entries_faults, checked_task}
-use Rattle.aud_check_bodies.specs.Declarations.{Declared, Objects, leaving, Exceptions, declared_exceptions, exceptions_twice, checked_exceptions}
+use Rattle.aud_check_bodies.specs.Declarations.{Declared, Objects, nothing_declared, leaving, Exceptions, declared_exceptions, exceptions_twice, checked_exceptions}
+use Rattle.aud_check_bodies.specs.Objects.{ObjectDeclared, parts_declared, parts_faults, with_object_parts, with_object, object_of_parts, checked_protected}
 use Rattle.aud_check_bodies.specs.Statements.{checked_declaration, checked_declarations}
 use Rattle.aud_check_bodies.specs.Ties.DeclarativePart.{Declares, DeclaresFormals, plain_exceptions}
 use Rattle.aud_check_bodies.specs.Ties.Entries.{plain_formals}
@@ -71,6 +74,10 @@ all_declared outer old now first last t all xs p a =
       sym (ap (λ (r : Outcome Declared). r.tables) end) ∙ a.tables,
     )
 
+-- a declaration by which nothing is declared
+pub declares_nothing : (old : Option Fault) (outer : List (Bor Region)) (part : DeclarativePart) (t : Tables) → Declares old old outer part part t (fine (nothing_declared (plain_place part.region outer)) t)
+declares_nothing old outer part t = (refl, refl, sym (append-nil _), refl)
+
 -- a declaration of objects leaves the tables as they are
 pub keeps_tables : {T E : Type 0} (r : Result T E) (old new : Option Fault) (outer : List (Bor Region)) (first next : DeclarativePart) (t : Tables) (o : Objects)
     → OnOk r (Declares old new outer first next no_tables (leaving no_tables o)) → OnOk r (Declares old new outer first next t (leaving t o))
@@ -106,6 +113,39 @@ declares_task (Ok x) old new outer first next t u at is_type i d h p q k =
     let all : List Fault = declared_once i.name i.at first.region.symbols.entries ++ (task_entries_faults d (place_named is_type i (plain_place first.region outer) t) t ++ right_name_at_end i.name (name_behind d)) in
     (h ∙ ap (noted old) (sym (append-nil all)), ap (λ z. place_in z (plain_regions outer)) p, q, k)
 declares_task (Err e) old new outer first next t u at is_type i d h p q k = tt
+
+-- a protected object, with what it declares
+pub declares_object : {T E : Type 0} (r : Result T E) (old new : Option Fault) (outer : List (Bor Region)) (first next : DeclarativePart) (t u : Tables) (at : Pos) (i : Ident) (operations : List Operation) (hidden : Option (List PrivateItem)) (last : Option Ident) (x : ObjectDeclared)
+    → x ≡ parts_declared i.name operations hidden (plain_place first.region outer) t
+    → new ≡ noted old (declared_once i.name i.at first.region.symbols.entries ++ (parts_faults i.name operations hidden (plain_place first.region outer) t ++ right_name_at_end i.name last))
+    → plain_region next.region ≡ with_object_parts x.around.parts (with_object i (next_object t) (plain_region first.region))
+    → plain_typed_statements next.elaborations.items ≡ plain_typed_statements first.elaborations.items ++ declare_object at (next_object t) x.values ∷ []
+    → OnOk r (u ≡ object_kept i.name x.entries x.tables)
+    → OnOk r (Declares old new outer first next u (checked_protected at i operations hidden last (plain_place first.region outer) t))
+declares_object (Ok y) old new outer first next t u at i operations hidden last x e h p q k =
+    let place : Place = plain_place first.region outer in
+    let all : List Fault = declared_once i.name i.at first.region.symbols.entries ++ (parts_faults i.name operations hidden place t ++ right_name_at_end i.name last) in
+    let made : ObjectDeclared → Outcome Declared = λ z. object_of_parts z at i (next_object t) place in (
+      h ∙ ap (noted old) (sym (append-nil all)),
+      ap (λ z. place_in z (plain_regions outer)) p ∙ ap (λ (z : ObjectDeclared). (made z).made.place) e,
+      q ∙ ap (λ (z : ObjectDeclared). plain_typed_statements first.elaborations.items ++ (made z).made.elaborations) e,
+      k ∙ ap (λ (z : ObjectDeclared). (made z).tables) e,
+    )
+declares_object (Err y) old new outer first next t u at i operations hidden last x e h p q k = tt
+
+pub not_declared_yet : (once declared : Bool) → once ≡ not declared → once ≡ true → declared ≡ false
+not_declared_yet true true p q = cc
+not_declared_yet true false p q = refl
+not_declared_yet false declared p q = cc
+
+already_declared : (once declared : Bool) → once ≡ not declared → once ≡ false → declared ≡ true
+already_declared false true p q = refl
+already_declared false false p q = cc
+already_declared true declared p q = cc
+
+-- a name that is declared already stays what it was
+pub stays_declared : (once : Bool) (i : Ident) (number : ℕ) (r : names.Region) → once ≡ not (is_declared i.name r.symbols) → once ≡ false → r ≡ with_object i number r
+stays_declared once i number r p q = rw (already_declared once (is_declared i.name r.symbols) p q) refl
 
 -- formals in a region of their own
 pub formals_left : (r : Result (Vec NamedParameter Global) AllocError) (old new : Option Fault) (region : Region) (f g : Formals) → f ≡ g → IfOk r (λ p. DeclaresFormals old new region [] p.items f) → Leaves plain_formals r old new g.faults g.profile

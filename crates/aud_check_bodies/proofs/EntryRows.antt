@@ -103,11 +103,12 @@ called p t entry xs = tree.entry_call p (record { callee = tree.of_task t; entry
 accept_row : typed (with_accept (accept_e (doing (null (at 5 45))))) ≡ tree.program_of_units (record {
   name = codes "M";
   units =
-      (record { level = 0; region = 0; at = at 1 1; body = tree.body (tree.some (tree.sequence (tree.declare_tasks (at 2 1) (record { task_type = 0; name = codes "T"; low = pos 0; is_array = false; length = 1 })) (tree.activate (at 6 1)))) (at 6 1) (tree.null (at 7 1)) tree.no_handlers (at 9 1) })
-      ∷ (record { level = 1; region = 1; at = at 4 1; body = tree.body (tree.some (tree.activated (at 5 1))) (at 5 1) (tree.accept (at 5 7) 0 (tree.with_do 2 (tree.body tree.nothing (at 5 40) (tree.null (at 5 45)) tree.no_handlers (at 5 60)))) tree.no_handlers (at 5 90) })
+      (record { level = 0; region = 0; is_function = false; at = at 1 1; body = tree.body (tree.some (tree.sequence (tree.declare_tasks (at 2 1) (record { task_type = 0; name = codes "T"; low = pos 0; is_array = false; length = 1 })) (tree.activate (at 6 1)))) (at 6 1) (tree.null (at 7 1)) tree.no_handlers (at 9 1) })
+      ∷ (record { level = 1; region = 1; is_function = false; at = at 4 1; body = tree.body (tree.some (tree.activated (at 5 1))) (at 5 1) (tree.accept (at 5 7) 0 (tree.with_do 2 (tree.body tree.nothing (at 5 40) (tree.null (at 5 45)) tree.no_handlers (at 5 60)))) tree.no_handlers (at 5 90) })
       ∷ [];
   tasks = record { unit = 1; entries = 0 ∷ 1 ∷ [] } ∷ [];
-  entries = codes "E" ∷ codes "F" ∷ [];
+  objects = [];
+  entries = tree.task_entry (codes "E") ∷ tree.task_entry (codes "F") ∷ [];
   regions = (hidden_one (codes "T") ∷ []) ∷ (hidden_one [] ∷ []) ∷ (record { name = codes "N"; shown = tree.as_whole } ∷ record { name = codes "V"; shown = tree.as_truth } ∷ []) ∷ [];
   exceptions = [];
 })

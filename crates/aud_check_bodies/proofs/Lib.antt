@@ -11,6 +11,8 @@ pub mod Shown
 pub mod Declared
 pub mod Walked
 pub mod Bodies
+pub mod ObjectBodies
+pub mod Functions
 pub mod Scoping
 pub mod Called
 pub mod Passing

@@ -1,6 +1,6 @@
 -- Procedures in small, and what is said of them.
 use Rattle.std.specs.Prelude.{ℕ, pos, true, List, [], ◌∷◌, codes, Some, None}
-use Rattle.std.proofs.Common.{◌≡◌, refl}
+use Rattle.std.proofs.Common.{false, ◌≡◌, refl}
 use Rattle.aud_text.specs.declared.place.Pos.{Pos}
 use Rattle.aud_text.specs.declared.refusal.Refusal.{Refusal}
 use Rattle.aud_text.specs.declared.refusal.Refusal.TheVariants.{NameNotDeclared, DeclaredTwice, WrongKindOfName, WrongType, WrongNumberOfArguments, NotAVariable, WrongNameAtEnd, ExitWithoutLoop, ReturnOutOfPlace, RaiseWithoutHandler}
@@ -82,10 +82,11 @@ abbrev sets_program : tree.Program
 sets_program = tree.program_of_units (record {
   name = codes "M";
   units =
-      (record { level = 0; region = 0; at = at 1 1; body = tree.body (tree.some v_starts) (at 5 1) (procedure_call 1 (tree.by_copy true Integer (scalar_at 0) ∷ [])) tree.no_handlers (at 9 1) })
-      ∷ (record { level = 1; region = 1; at = at 2 1; body = tree.body tree.nothing (at 3 1) (tree.assign (at 3 7) (scalar_at 1) (tree.whole Integer (tree.number (pos 1)))) tree.no_handlers (at 3 70) })
+      (record { level = 0; region = 0; is_function = false; at = at 1 1; body = tree.body (tree.some v_starts) (at 5 1) (procedure_call 1 (tree.by_copy true Integer (scalar_at 0) ∷ [])) tree.no_handlers (at 9 1) })
+      ∷ (record { level = 1; region = 1; is_function = false; at = at 2 1; body = tree.body tree.nothing (at 3 1) (tree.assign (at 3 7) (scalar_at 1) (tree.whole Integer (tree.number (pos 1)))) tree.no_handlers (at 3 70) })
       ∷ [];
   tasks = [];
+  objects = [];
   entries = [];
   regions = (shown_whole (codes "V") ∷ []) ∷ (shown_whole (codes "N") ∷ []) ∷ [];
   exceptions = [];

@@ -46,6 +46,7 @@ program_of_four s = tree.program_of_units (record {
   units = (record {
     level = 0;
     region = 0;
+    is_function = false;
     at = at 1 1;
     body = tree.body (tree.part_of (
         tree.declare (at 2 1) 1 (tree.whole Natural (tree.number (pos 0))) ∷
@@ -54,6 +55,7 @@ program_of_four s = tree.program_of_units (record {
         tree.declare (at 5 1) 4 (tree.whole Integer (tree.number (pos 3))) ∷ [])) (at 6 1) s tree.no_handlers (at 9 1);
   }) ∷ [];
   tasks = [];
+  objects = [];
   entries = [];
   regions = (shown_as (codes "N") tree.as_whole ∷ shown_as (codes "P") tree.as_whole ∷ shown_as (codes "B") tree.as_truth ∷ shown_as (codes "C") tree.as_whole ∷ []) ∷ [];
   exceptions = [];

@@ -6,8 +6,11 @@ pub mod Elaborations
 pub mod Declarations
 pub mod Arguments
 pub mod Tables
+pub mod Alike
+pub mod Operations
 pub mod Entries
 pub mod Units
+pub mod Objects
 pub mod Single
 pub mod Statements
 pub mod Programs

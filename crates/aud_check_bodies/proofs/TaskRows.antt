@@ -62,10 +62,11 @@ own = tree.single (record { level = 1; index = 0 })
 type_row : typed (main (task_t true ∷ an_x ∷ an_a 4 ∷ body_of_t [] (asks (at 5 7)) ∷ []) nothing) ≡ tree.program_of_units (record {
   name = codes "M";
   units =
-      (record { level = 0; region = 0; at = at 1 1; body = tree.body (tree.some (tree.sequence (created (at 3 1) (codes "X") 0 false 1) (tree.sequence (created (at 3 11) (codes "A") 2 true 3) (tree.activate (at 6 1))))) (at 6 1) (tree.null (at 7 1)) tree.no_handlers (at 9 1) })
-      ∷ (record { level = 1; region = 1; at = at 4 1; body = tree.body (tree.some (tree.activated (at 5 1))) (at 5 1) (asked (at 5 7) own) tree.no_handlers (at 5 50) })
+      (record { level = 0; region = 0; is_function = false; at = at 1 1; body = tree.body (tree.some (tree.sequence (created (at 3 1) (codes "X") 0 false 1) (tree.sequence (created (at 3 11) (codes "A") 2 true 3) (tree.activate (at 6 1))))) (at 6 1) (tree.null (at 7 1)) tree.no_handlers (at 9 1) })
+      ∷ (record { level = 1; region = 1; is_function = false; at = at 4 1; body = tree.body (tree.some (tree.activated (at 5 1))) (at 5 1) (asked (at 5 7) own) tree.no_handlers (at 5 50) })
       ∷ [];
   tasks = record { unit = 1; entries = [] } ∷ [];
+  objects = [];
   entries = [];
   regions = (record { name = codes "X"; shown = tree.hidden 1 } ∷ record { name = codes "A"; shown = tree.hidden 3 } ∷ []) ∷ (number_of_task ∷ []) ∷ [];
   exceptions = [];

@@ -1,20 +1,19 @@
--- Assignments (RM 5.2).
-use Rattle.std.specs.Prelude.{List, [], ◌++◌, Option, Some, None, if◌then◌else◌}
+-- What is assigned to (RM 5.2).
+use Rattle.std.specs.Prelude.{not, List, [], ◌++◌, Option, Some, None, if◌then◌else◌}
 use Rattle.aud_text.specs.declared.place.Pos.{Pos}
-use Rattle.aud_syntax.specs.Plain.{Name, Expression}
+use Rattle.aud_syntax.specs.Plain.{Name}
 use Rattle.aud_typed.specs.declared.program.Variable.{Variable}
 use Rattle.aud_typed.specs.declared.program.ArrayAt.{ArrayAt}
 use Rattle.aud_typed.specs.declared.program.Subtype.{Subtype}
 use Rattle.aud_typed.specs.Tree as tree
 use Rattle.aud_fault.specs.declared.fault.Fault.{Fault}
 use Rattle.aud_names.specs.declared.names.Meaning.{Meaning}
-use Rattle.aud_names.specs.declared.names.Meaning.TheVariants.{ScalarType, Literal, Object, Array, Exception, Builtin, Procedure, TaskType, Task, TaskArray, Entry}
+use Rattle.aud_names.specs.declared.names.Meaning.TheVariants.{ScalarType, Literal, Object, Array, Exception, Builtin, Procedure, TaskType, Task, TaskArray, Entry, Protected, Operation, Barred}
 use Rattle.aud_names.specs.declared.rules.Base.{Base}
 use Rattle.aud_names.specs.declared.rules.Base.TheVariants.{Truth}
 use Rattle.aud_names.specs.Names.{Place}
-use Rattle.aud_names.specs.Resolution.{name_ident}
-use Rattle.aud_names.specs.Rules.{base_asked, wrong_kind_of_name, right_type, not_a_variable}
-use Rattle.aud_typing.specs.Expressions.{Typed, Entity, no_entity, entity, element_of, task_of, Denoting, denoting, checked_arguments, checked_expression, expression_at, base_of}
+use Rattle.aud_names.specs.Rules.{base_asked, wrong_kind_of_name, right_type, not_a_variable, no_change_within_function}
+use Rattle.aud_typing.specs.Expressions.{Typed, Entity, no_entity, entity, element_of, task_of, Denoting, denoting, checked_arguments, value_faults, base_of}
 use Rattle.aud_check_bodies.specs.Declarations.{value_for}
 
 -- the type of what is assigned to, where it is known
@@ -29,9 +28,9 @@ target_base (entity m) = meaning_base m
 target_base (element_of a index s) = base_asked s
 target_base (task_of a index) = None
 
--- what is assigned to must be a variable (RM 5.2(5)) or an element, and no constant
+-- what is assigned to must be a variable (RM 5.2(5)) or an element, and no constant; a component not within a function of its object
 abbrev pub changed_faults : Meaning → Pos → List Fault
-changed_faults (Object o) at = if o.constant then not_a_variable at else []
+changed_faults (Object o) at = if o.constant then not_a_variable at else no_change_within_function (not o.locked) at
 changed_faults (Literal b) at = not_a_variable at
 changed_faults (Array a) at = wrong_kind_of_name at
 changed_faults (ScalarType s) at = wrong_kind_of_name at
@@ -42,6 +41,9 @@ changed_faults (TaskType n) at = wrong_kind_of_name at
 changed_faults (Task v) at = wrong_kind_of_name at
 changed_faults (TaskArray a) at = wrong_kind_of_name at
 changed_faults (Entry e) at = wrong_kind_of_name at
+changed_faults (Protected x) at = wrong_kind_of_name at
+changed_faults (Operation o) at = value_faults (Operation o) at
+changed_faults Barred at = wrong_kind_of_name at
 
 abbrev pub target_faults : Entity → Pos → List Fault
 target_faults no_entity at = []
@@ -75,9 +77,3 @@ assigned (task_of a index) at value = tree.null at
 -- a name whose last argument is of a type
 abbrev pub target_of : Name → Place → Denoting
 target_of n place = denoting n (checked_arguments n place).typed place
-
-abbrev pub assign_faults : Name → Expression → Place → List Fault
-assign_faults n value place = (checked_arguments n place).faults ++ ((target_of n place).faults ++ ((checked_expression value place).faults ++ assigned_faults (target_of n place).entity (target_of n place).at (expression_at value) (checked_expression value place).typed))
-
-abbrev pub typed_assign : Name → Expression → Place → tree.Statement
-typed_assign n value place = assigned (target_of n place).entity (name_ident n).at (checked_expression value place).typed

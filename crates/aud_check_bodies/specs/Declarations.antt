@@ -11,7 +11,7 @@ use Rattle.aud_typed.specs.declared.program.Exception.TheVariants as exception_o
 use Rattle.aud_typed.specs.Tree as tree
 use Rattle.aud_fault.specs.declared.fault.Fault.{Fault}
 use Rattle.aud_names.specs.declared.names.Meaning.{Meaning}
-use Rattle.aud_names.specs.declared.names.Meaning.TheVariants.{ScalarType, Literal, Object, Array, Exception, Builtin, Procedure, TaskType}
+use Rattle.aud_names.specs.declared.names.Meaning.TheVariants.{ScalarType, Literal, Object, Array, Exception, Builtin, Procedure, TaskType, Protected, Operation, Barred}
 use Rattle.aud_names.specs.declared.names.Meaning.TheVariants as meaning
 use Rattle.aud_names.specs.declared.array.Kind.{Kind}
 use Rattle.aud_names.specs.declared.array.Kind.TheVariants.{Scalar, Task}
@@ -48,6 +48,9 @@ subtype_faults (Some (TaskType n)) at = wrong_kind_of_name at
 subtype_faults (Some (meaning.Task v)) at = wrong_kind_of_name at
 subtype_faults (Some (meaning.TaskArray a)) at = wrong_kind_of_name at
 subtype_faults (Some (meaning.Entry e)) at = wrong_kind_of_name at
+subtype_faults (Some (Protected x)) at = wrong_kind_of_name at
+subtype_faults (Some (Operation o)) at = wrong_kind_of_name at
+subtype_faults (Some Barred) at = wrong_kind_of_name at
 
 abbrev pub subtype_meant : Option Meaning → Option Subtype
 subtype_meant (Some (ScalarType s)) = Some s

@@ -4,6 +4,7 @@ pub mod Formals
 pub mod Assignments
 pub mod Arguments
 pub mod Calls
+pub mod Values
 pub mod Delays
 pub mod Accepts
 pub mod Selects
@@ -11,7 +12,9 @@ pub mod Labels
 pub mod Regions
 pub mod Handlers
 pub mod Entries
+pub mod Objects
 pub mod Tasks
+pub mod Operations
 pub mod Statements
 pub mod Programs
 pub mod Ties

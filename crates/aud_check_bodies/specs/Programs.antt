@@ -23,7 +23,7 @@ abbrev pub faults : Unit → List Fault
 faults u = (main_checked u).faults
 
 abbrev pub program_with : List ℕ → Tables → tree.Program
-program_with name t = tree.program_of_units (record { name = name; units = t.units; tasks = t.tasks; entries = t.entries; regions = t.regions; exceptions = t.exceptions })
+program_with name t = tree.program_of_units (record { name = name; units = t.units; tasks = t.tasks; objects = t.objects; entries = t.entries; regions = t.regions; exceptions = t.exceptions })
 
 abbrev pub main_program : List ℕ → Outcome tree.UnitBody → tree.Program
 main_program name o = program_with name (with_unit 0 o.made o.tables)

@@ -20,12 +20,13 @@ abbrev pub shown_row : Option Subtype → ℕ → tree.Shown
 shown_row (Some Boolean) count = tree.as_truths count
 shown_row _ count = tree.as_wholes count
 
--- how a variable, constant, array or task is shown; what stands for something else has no cells
+-- how a variable, constant, array, task or protected object is shown; what stands for something else has no cells
 abbrev pub shown : Meaning → Option tree.Shown
 shown (meaning.Object o) = Some (shown_of o.subtype)
 shown (meaning.Array a) = Some (shown_row a.subtype (length_between a.low a.high))
 shown (meaning.Task v) = Some (tree.hidden 1)
 shown (meaning.TaskArray a) = Some (tree.hidden (length_between a.low a.high))
+shown (meaning.Protected x) = Some (tree.hidden 1)
 shown _ = None
 
 abbrev pub shown_before : List ℕ → Option tree.Shown → List tree.Named → List tree.Named

@@ -2,44 +2,53 @@
 use Rattle.std.specs.Prelude.{ℕ, Bool, true, false, List, [], ◌∷◌, ◌++◌, Option, Some, None, is_some, not}
 use Rattle.aud_text.specs.declared.place.Pos.{Pos}
 use Rattle.aud_syntax.specs.declared.tree.Ident.{Ident}
-use Rattle.aud_syntax.specs.Plain.{Expression, MaybeExpression, no_expression, an_expression, Formal, Declaration, object, constant, array, exception, procedure, task, task_body, protected, protected_body, no_declarations, more_declarations, Statement, null, assign, call, if_then, loop, exit, block, return, raise, accepting, delaying, select_accept, select_call, abort, requeue, Arms, no_arms, more_arms, Iteration, forever, while, for, Statements, in_order, MoreStatements, no_statements, more_statements, Declarations, Body, body, Handlers, no_handlers, more_handlers, Choices, Simple, Accept, accept, Doing, without_do, with_do, Alternative, accept_alternative, delay_alternative, terminate_alternative, Alternatives, no_alternatives, more_alternatives, Otherwise, or_delay, or_else}
+use Rattle.aud_syntax.specs.Plain.{Expression, MaybeExpression, no_expression, an_expression, Formal, Declaration, object, constant, array, exception, procedure, task, task_body, protected, protected_body, OperationBody, entry_body, procedure_body, function_body, OperationBodies, no_bodies, more_bodies, no_declarations, more_declarations, Statement, null, assign, call, if_then, loop, exit, block, return, raise, accepting, delaying, select_accept, select_call, abort, requeue, Arms, no_arms, more_arms, Iteration, forever, while, for, Statements, in_order, MoreStatements, no_statements, more_statements, Declarations, Body, body, Handlers, no_handlers, more_handlers, Choices, Simple, Accept, accept, Doing, without_do, with_do, Alternative, accept_alternative, delay_alternative, terminate_alternative, Alternatives, no_alternatives, more_alternatives, Otherwise, or_delay, or_else}
 use Rattle.aud_typed.specs.declared.program.Exception.{Exception}
+use Rattle.aud_typed.specs.declared.program.Subtype.{Subtype}
 use Rattle.aud_typed.specs.Tree as tree
 use Rattle.aud_fault.specs.declared.fault.Fault.{Fault}
 use Rattle.aud_names.specs.declared.rules.Base.TheVariants.{Whole}
+use Rattle.aud_names.specs.declared.awaited.AwaitedPart.{AwaitedPart}
 use Rattle.aud_names.specs.declared.names.Entry.{Entry}
 use Rattle.aud_names.specs.Names.{Region, Place, innermost, in_region, place_in, body_frame, in_frame, hiding}
+use Rattle.aud_names.specs.Objects.{awaited_parts}
+use Rattle.aud_check_bodies.specs.declared.within.Leaves.{Leaves}
+use Rattle.aud_check_bodies.specs.declared.within.Leaves.TheVariants as leaves
 use Rattle.aud_check_bodies.specs.Labels.{Labels, exit_loop}
 use Rattle.aud_names.specs.Rules.{declared_once, right_name_at_end, right_label_at_end, exit_in_loop, return_in_place}
 use Rattle.aud_check_bodies.specs.Tables.{nowhere, Tables, Outcome, fine, after, and_then, next_region, with_region, region_kept, region_named, next_unit, unit_kept, with_unit}
-use Rattle.aud_typing.specs.Expressions.{checked_simple, checked_expression, simple_at, wants}
+use Rattle.aud_typing.specs.Expressions.{checked_simple, simple_at, wants}
 use Rattle.aud_typing.specs.Conditions.{condition_faults, condition, maybe_condition_faults, maybe_condition}
-use Rattle.aud_check_bodies.specs.Declarations.{integer_of, Declared, leaving, checked_objects, checked_arrays, checked_exceptions, with_procedure, nothing_declared, joined_declared}
+use Rattle.aud_check_bodies.specs.Declarations.{integer_of, given_faults, given_value, Declared, leaving, checked_objects, checked_arrays, checked_exceptions, with_procedure, nothing_declared, joined_declared}
 use Rattle.aud_check_bodies.specs.Formals.{Formals, checked_formals}
+use Rattle.aud_check_bodies.specs.Objects.{checked_protected, object_awaited, object_behind, object_body_of}
+use Rattle.aud_check_bodies.specs.Operations.{Head, of_entry, of_procedure, of_function, is_function_head, BodyPlaces, body_places, operation_place, head_leaves, shape_of, operation_of}
 use Rattle.aud_check_bodies.specs.Tasks.{checked_task, with_bodies, task_awaited, place_behind, task_body_of, with_activation}
 use Rattle.aud_check_bodies.specs.Regions.{loop_region, in_loop, shown_names}
-use Rattle.aud_check_bodies.specs.Assignments.{assign_faults, typed_assign}
+use Rattle.aud_check_bodies.specs.Values.{assign_faults, typed_assign}
 use Rattle.aud_check_bodies.specs.Calls.{call_faults, typed_call, entry_call_of, selected_call_faults, selected_call}
 use Rattle.aud_check_bodies.specs.Delays.{delay_at, delay_faults, typed_delay}
 use Rattle.aud_check_bodies.specs.Accepts.{accept_formals, accept_faults, accepted, number_of, with_accepted, TypedAccept}
 use Rattle.aud_check_bodies.specs.Selects.{TypedAlternative, accepts, delays, terminates, alternatives_of, form_faults, form_of}
 use Rattle.aud_check_bodies.specs.Handlers.{raise_faults, typed_raise, none_chosen, all_choices_faults, choices_of, is_others}
 
--- what a statement knows of the constructs around it in its body: loops and blocks, whether a handler is among them, whether a return would
--- leave a task's body, and the entries of the accepts
+-- what a statement knows of the constructs around it in its body: loops and blocks, whether a handler is among them, what a return would
+-- leave, and the entries of the accepts
 pub record Around : Type 0 where
   pub labels : Labels
   pub in_handler : Bool
-  pub in_task : Bool
+  pub leaves : Leaves
   pub accepting : List ℕ
 
--- nothing is around the statements of a procedure: labels and handlers end at its border (RM 5.7(4), 11.3(3))
-abbrev pub nothing_around : Around
-nothing_around = record { labels = []; in_handler = false; in_task = false; accepting = [] }
+-- nothing is around the statements of a body: labels and handlers end at its border (RM 5.7(4), 11.3(3))
+abbrev pub leaving_body : Leaves → Around
+leaving_body l = record { labels = []; in_handler = false; leaves = l; accepting = [] }
 
--- nor around those of a task
+abbrev pub nothing_around : Around
+nothing_around = leaving_body leaves.Procedure
+
 abbrev pub task_around : Around
-task_around = record { labels = []; in_handler = false; in_task = true; accepting = [] }
+task_around = leaving_body leaves.Task
 
 abbrev pub labelled : Bool → Option Ident → Around → Around
 labelled is_loop label around = record around { labels = (record { is_loop = is_loop; name = label }) ∷ around.labels }
@@ -49,7 +58,7 @@ handling around = record around { in_handler = true }
 
 -- within an accept of an entry: no exit leaves it (RM 5.7(4)), and a return leaves no more than it (RM 6.5(4))
 abbrev pub in_accept : Option Entry → Around → Around
-in_accept e around = record { labels = []; in_handler = around.in_handler; in_task = false; accepting = with_accepted e around.accepting }
+in_accept e around = record { labels = []; in_handler = around.in_handler; leaves = leaves.Procedure; accepting = with_accepted e around.accepting }
 
 -- Loops.
 
@@ -156,15 +165,25 @@ end_name (body begin ss hs end name semicolon) = name
 abbrev pub end_semicolon : Body → Pos
 end_semicolon (body begin ss hs end name semicolon) = semicolon
 
--- Returns (RM 6.5): a task's body is not left by one, but an accept in it is; as yet there is no function.
+-- Returns (RM 6.5): a task's body is not left by one, but an accept in it is; a function by one with a value, and nothing else.
 
-abbrev pub return_faults : Pos → MaybeExpression → Bool → Place → List Fault
-return_faults at no_expression in_task place = return_in_place (not in_task) at
-return_faults at (an_expression e) in_task place = return_in_place false at ++ (checked_expression e place).faults
+abbrev pub may_return : Leaves → Bool → Bool
+may_return leaves.Task valued = false
+may_return leaves.Procedure valued = not valued
+may_return (leaves.Function s) valued = valued
 
-abbrev pub typed_return : Pos → MaybeExpression → tree.Statement
-typed_return at no_expression = tree.return at
-typed_return at (an_expression e) = tree.null at
+-- the subtype of the value
+abbrev pub returned_subtype : Leaves → Option Subtype
+returned_subtype (leaves.Function s) = s
+returned_subtype _ = None
+
+abbrev pub return_faults : Pos → MaybeExpression → Leaves → Place → List Fault
+return_faults at no_expression l place = return_in_place (may_return l false) at
+return_faults at (an_expression e) l place = return_in_place (may_return l true) at ++ given_faults e (returned_subtype l) place
+
+abbrev pub typed_return : Pos → MaybeExpression → Leaves → Place → tree.Statement
+typed_return at no_expression l place = tree.return at
+typed_return at (an_expression e) l place = tree.return_value at (given_value e (returned_subtype l) place)
 
 -- Bodies that are entered. What is checked of their declarations, and of the statements behind these, is told by where it stands.
 
@@ -176,10 +195,14 @@ entered of_task b declared stated place t =
     and_then (stated d.place (region_named (next_region t) (shown_names (innermost d.place).symbols) t1)) (λ x t2.
     fine (body_with (with_activation of_task (begin_of b) d.elaborations) b x) t2))
 
--- a procedure's body, behind its formals, or a task's; the name after its end must be its own (RM 6.3, 9.1)
-abbrev pub unit_of : Pos → List ℕ → Option Ident → Place → ℕ → Outcome tree.Body → Outcome tree.UnitBody
-unit_of at name last place region o =
-    and_then o (λ b t. after (right_name_at_end name last) (fine (record { level = (innermost place).level; region = region; at = at; body = b }) t))
+-- the body of a procedure, operation or entry, behind its formals, or a task's; the name after its end must be its own (RM 6.3, 9.1, 9.4)
+abbrev pub unit_of : Bool → Pos → List ℕ → Option Ident → Place → ℕ → Outcome tree.Body → Outcome tree.UnitBody
+unit_of is_function at name last place region o =
+    and_then o (λ b t. after (right_name_at_end name last) (fine (record { level = (innermost place).level; region = region; is_function = is_function; at = at; body = b }) t))
+
+-- what is around the statements of an operation's body, which stands at a place in its object's
+abbrev pub operation_around : Head → Ident → List Formal → Place → Around
+operation_around head i fs here = leaving_body (head_leaves head (shape_of head i fs here).returned)
 
 -- the place behind the name of a procedure, which is visible in its own body (RM 8.3)
 abbrev pub procedure_place : Ident → Place → Tables → Place
@@ -205,7 +228,7 @@ abbrev mutual
   -- RM 5.1
   pub checked_statement : Statement → Around → Place → Tables → Outcome tree.Statement
   checked_statement (null at) around place t = fine (tree.null at) t
-  checked_statement (assign n value) around place t = after (assign_faults n value place) (fine (typed_assign n value place) t)
+  checked_statement (assign n value) around place t = after (assign_faults n value place t) (fine (typed_assign n value place t) t)
   checked_statement (call n) around place t = after (call_faults n place t) (fine (typed_call n place t) t)
   checked_statement (if_then at c ss arms otherwise) around place t =
       and_then (arm_of at c place (checked_statements ss around place t)) (λ a t1. and_then (checked_arms arms around place t1) (λ more t2. and_then (checked_others otherwise around place t2) (λ rest t3.
@@ -217,7 +240,7 @@ abbrev mutual
   checked_statement (block label at declare ds b) around place t =
       after (right_label_at_end label (end_name b) (end_semicolon b)) (and_then (entered false b (λ inner t1. checked_declarations ds inner t1) (λ inner t1. checked_body b (labelled false label around) inner t1) (in_frame place) t) (λ x t1.
       fine (tree.block (begin_at label at) (next_region t) x) t1))
-  checked_statement (return at e) around place t = after (return_faults at e around.in_task place) (fine (typed_return at e) t)
+  checked_statement (return at e) around place t = after (return_faults at e around.leaves place) (fine (typed_return at e around.leaves place) t)
   checked_statement (raise at name) around place t = after (raise_faults at name around.in_handler place) (fine (typed_raise at name place) t)
   checked_statement (accepting x) around place t = and_then (checked_accept x around place t) (λ a t1. fine (tree.accept a.at a.entry a.doing) t1)
   checked_statement (delaying d) around place t = after (delay_faults d place) (fine (tree.delay (delay_at d) (typed_delay d place)) t)
@@ -301,14 +324,32 @@ abbrev mutual
   checked_declaration (exception first others) place t = checked_exceptions (first ∷ others) place t
   checked_declaration (procedure at i fs ds b) place t =
       procedure_of i (procedure_formals i fs (procedure_place i place t)) (λ inner t1.
-      unit_of at i.name (end_name b) inner (next_region t1) (entered false b (λ further t2. checked_declarations ds further t2) (λ further t2. checked_body b nothing_around further t2) inner t1)) place (procedure_place i place t) t
+      unit_of false at i.name (end_name b) inner (next_region t1) (entered false b (λ further t2. checked_declarations ds further t2) (λ further t2. checked_body b nothing_around further t2) inner t1)) place (procedure_place i place t) t
   checked_declaration (task at is_type i d) place t = checked_task at is_type i d place t
   checked_declaration (task_body at i ds b) place t =
       task_body_of i (task_awaited i place) (λ inner t1.
-      unit_of at i.name (end_name b) inner (next_region t1) (entered true b (λ further t2. checked_declarations ds further t2) (λ further t2. checked_body b task_around further t2) inner t1)) (place_behind i place) t
-  -- no program has these yet
-  checked_declaration (protected at i operations hidden last) place t = fine (nothing_declared place) t
-  checked_declaration (protected_body at i inner last) place t = fine (nothing_declared place) t
+      unit_of false at i.name (end_name b) inner (next_region t1) (entered true b (λ further t2. checked_declarations ds further t2) (λ further t2. checked_body b task_around further t2) inner t1)) (place_behind i place) t
+  checked_declaration (protected at i operations hidden last) place t = checked_protected at i operations hidden last place t
+  checked_declaration (protected_body at i bodies last) place t =
+      object_body_of i (object_awaited i place) last (λ object t1.
+      checked_bodies bodies (body_places i.name object (object_behind i place)) (awaited_parts object (innermost (object_behind i place)).parts) t1) (object_behind i place) t
+
+  -- RM 9.4(7): those that wait for their bodies still
+  pub checked_bodies : OperationBodies → BodyPlaces → List AwaitedPart → Tables → Outcome (List AwaitedPart)
+  checked_bodies no_bodies o awaited t = fine awaited t
+  checked_bodies (more_bodies x xs) o awaited t = and_then (checked_operation x o awaited t) (λ still t1. checked_bodies xs o still t1)
+
+  -- RM 9.4(8)
+  pub checked_operation : OperationBody → BodyPlaces → List AwaitedPart → Tables → Outcome (List AwaitedPart)
+  checked_operation (entry_body at i fs barrier ds b) o awaited t =
+      operation_of (of_entry barrier) i fs (λ inner t1.
+      unit_of false at i.name (end_name b) inner (next_region t1) (entered false b (λ further t2. checked_declarations ds further t2) (λ further t2. checked_body b (operation_around (of_entry barrier) i fs o.inside) further t2) inner t1)) o awaited t
+  checked_operation (procedure_body at i fs ds b) o awaited t =
+      operation_of of_procedure i fs (λ inner t1.
+      unit_of false at i.name (end_name b) inner (next_region t1) (entered false b (λ further t2. checked_declarations ds further t2) (λ further t2. checked_body b (operation_around of_procedure i fs o.inside) further t2) inner t1)) o awaited t
+  checked_operation (function_body at i fs mark ds b) o awaited t =
+      operation_of (of_function mark) i fs (λ inner t1.
+      unit_of true at i.name (end_name b) inner (next_region t1) (entered false b (λ further t2. checked_declarations ds further t2) (λ further t2. checked_body b (operation_around (of_function mark) i fs o.in_function) further t2) inner t1)) o awaited t
 
 -- The same of a loop behind the check of its label.
 
@@ -330,4 +371,12 @@ around_unit true = task_around
 around_unit false = nothing_around
 
 abbrev pub checked_unit : Bool → Pos → List ℕ → Declarations → Body → Place → Tables → Outcome tree.UnitBody
-checked_unit of_task at name ds b place t = unit_of at name (end_name b) place (next_region t) (entered_body of_task ds b (around_unit of_task) place t)
+checked_unit of_task at name ds b place t = unit_of false at name (end_name b) place (next_region t) (entered_body of_task ds b (around_unit of_task) place t)
+
+-- and of the body of an operation or entry, at a place in its object's
+abbrev pub checked_operation_unit : Head → Pos → Ident → List Formal → Declarations → Body → Place → Place → Tables → Outcome tree.UnitBody
+checked_operation_unit head at i fs ds b here place t =
+    unit_of (is_function_head head) at i.name (end_name b) place (next_region t) (entered_body false ds b (operation_around head i fs here) place t)
+
+abbrev pub checked_operation_of : Head → Pos → Ident → List Formal → Declarations → Body → BodyPlaces → List AwaitedPart → Tables → Outcome (List AwaitedPart)
+checked_operation_of head at i fs ds b o awaited t = operation_of head i fs (λ inner t1. checked_operation_unit head at i fs ds b (operation_place head o) inner t1) o awaited t

@@ -1,24 +1,25 @@
 -- What stands in a typed program's tables, as a check of the text makes them, and what such a check gives.
-use Rattle.std.specs.Prelude.{ℕ, List, [], ◌∷◌, ◌++◌, length, slice_index_or, slice_set}
+use Rattle.std.specs.Prelude.{ℕ, false, List, [], ◌∷◌, ◌++◌, length, slice_index_or, slice_set}
 use Rattle.aud_text.specs.declared.place.Pos.{Pos}
 use Rattle.aud_typed.specs.Tree as tree
 use Rattle.aud_fault.specs.declared.fault.Fault.{Fault}
 use Rattle.aud_names.specs.declared.names.NamedParameter.{NamedParameter}
 
 -- the variables and constants of each region that has been entered, by the regions' numbers, and the names of the exceptions, by theirs;
--- of each procedure and task that has been declared its formals (RM 6.1), and its body, by the number of its unit; the task types, by theirs;
--- and of each entry its name and its formals, by theirs (RM 9.5.2)
+-- of each procedure, task, operation and protected entry that has been declared its formals (RM 6.1), and its body, by the number of its
+-- unit; the task types and the protected objects, by theirs; and of each entry what it is and its formals, by theirs (RM 9.5.2)
 pub record Tables : Type 0 where
   pub regions : List (List tree.Named)
   pub exceptions : List (List ℕ)
   pub profiles : List (List NamedParameter)
   pub units : List tree.UnitBody
   pub tasks : List tree.TaskPlan
-  pub entries : List (List ℕ)
+  pub objects : List tree.ObjectPlan
+  pub entries : List tree.EntryBody
   pub entry_profiles : List (List NamedParameter)
 
 abbrev pub no_tables : Tables
-no_tables = record { regions = []; exceptions = []; profiles = []; units = []; tasks = []; entries = []; entry_profiles = [] }
+no_tables = record { regions = []; exceptions = []; profiles = []; units = []; tasks = []; objects = []; entries = []; entry_profiles = [] }
 
 -- what checking a construct gives: its faults, the tables after it, and what is made of it
 pub record Outcome (A : Type 0) : Type 0 where
@@ -61,7 +62,7 @@ abbrev pub nowhere : Pos
 nowhere = record { line = 0; col = 0 }
 
 abbrev pub no_body : tree.UnitBody
-no_body = record { level = 0; region = 0; at = nowhere; body = tree.body tree.nothing nowhere (tree.null nowhere) tree.no_handlers nowhere }
+no_body = record { level = 0; region = 0; is_function = false; at = nowhere; body = tree.body tree.nothing nowhere (tree.null nowhere) tree.no_handlers nowhere }
 
 abbrev pub unit_kept : List NamedParameter → Tables → Tables
 unit_kept profile t = record t { profiles = t.profiles ++ profile ∷ []; units = t.units ++ no_body ∷ [] }
@@ -84,7 +85,34 @@ abbrev pub next_entry : Tables → ℕ
 next_entry t = length t.entries
 
 abbrev pub entry_kept : List ℕ → List NamedParameter → Tables → Tables
-entry_kept name profile t = record t { entries = t.entries ++ name ∷ []; entry_profiles = t.entry_profiles ++ profile ∷ [] }
+entry_kept name profile t = record t { entries = t.entries ++ tree.task_entry name ∷ []; entry_profiles = t.entry_profiles ++ profile ∷ [] }
+
+-- A protected one has the next unit besides, which nothing calls by its number, and its barrier is there once its body is checked.
+
+abbrev pub protected_entry : List ℕ → ℕ → tree.EntryBody
+protected_entry name unit = record (tree.task_entry name) { unit = unit }
+
+abbrev pub protected_entry_kept : List ℕ → List NamedParameter → Tables → Tables
+protected_entry_kept name profile t = record t {
+  profiles = t.profiles ++ [] ∷ [];
+  units = t.units ++ no_body ∷ [];
+  entries = t.entries ++ protected_entry name (next_unit t) ∷ [];
+  entry_profiles = t.entry_profiles ++ profile ∷ [];
+}
+
+abbrev pub entry_at : ℕ → Tables → tree.EntryBody
+entry_at number t = slice_index_or t.entries number (tree.task_entry [])
+
+abbrev pub with_barrier : ℕ → tree.BooleanExpression → Tables → Tables
+with_barrier number barrier t = record t { entries = slice_set t.entries number (record (entry_at number t) { barrier = barrier }) }
+
+-- Protected objects: one that is declared has the next number.
+
+abbrev pub next_object : Tables → ℕ
+next_object t = length t.objects
+
+abbrev pub object_kept : List ℕ → List ℕ → Tables → Tables
+object_kept name entries t = record t { objects = t.objects ++ (record { name = name; entries = entries }) ∷ [] }
 
 -- the formals of a unit
 abbrev pub profile_of : ℕ → Tables → List NamedParameter

@@ -14,6 +14,7 @@ use Rattle.aud_names.specs.Rules.{declared_once, right_name_at_end, no_matching_
 use Rattle.aud_check_bodies.specs.Tables.{Tables, Outcome, fine, after, and_then, next_unit, with_unit, next_task, task_kept}
 use Rattle.aud_check_bodies.specs.Entries.{Entries, no_entries, declared_entries, entries_faults, entries_of, entry_numbers, naming}
 use Rattle.aud_check_bodies.specs.Declarations.{Declared, with_symbol, task_elaborations, nothing_declared}
+use Rattle.aud_check_bodies.specs.Objects.{without_object_bodies}
 
 -- Declarations (RM 9.1).
 
@@ -71,7 +72,7 @@ without_bodies [] = []
 without_bodies (a ∷ others) = no_matching_body a.at ++ without_bodies others
 
 abbrev pub with_bodies : Outcome Declared → Outcome Declared
-with_bodies o = record { faults = o.faults ++ without_bodies (innermost o.made.place).awaited; tables = o.tables; made = o.made }
+with_bodies o = record { faults = o.faults ++ (without_bodies (innermost o.made.place).awaited ++ without_object_bodies (innermost o.made.place).objects); tables = o.tables; made = o.made }
 
 -- a body is that of a task that waits for it
 abbrev pub matched_faults : Option Awaited → Pos → List Fault

@@ -6,3 +6,5 @@ pub mod Loops
 pub mod Passed
 pub mod Tables
 pub mod Within
+pub mod Values
+pub mod Objects

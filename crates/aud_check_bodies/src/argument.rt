@@ -76,8 +76,8 @@ fn relation_name(relation: &Relation) -> Option<&Name>
     }
 }
 
-// The name that an expression is, if it is nothing more.
-fn expression_name(e: &Expression) -> Option<&Name>
+/// The name that an expression is, if it is nothing more.
+pub fn expression_name(e: &Expression) -> Option<&Name>
     ensures { plain_found result ≡ expression_name (plain_expression e.now) }
 {
     match e {
@@ -126,8 +126,8 @@ fn meaning_reference(meaning: Meaning) -> Option<Reference>
     }
 }
 
-// What is copied back to, if that is a variable.
-fn reference_of(entity: Entity) -> Option<Reference>
+/// What is copied back to, if that is a variable.
+pub fn reference_of(entity: Entity) -> Option<Reference>
     ensures { plain_target result ≡ reference_of (plain_entity entity) }
 {
     match entity {

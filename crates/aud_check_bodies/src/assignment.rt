@@ -1,24 +1,27 @@
-// Assignments.
+// What is assigned to, and assignments of expressions.
 
-ghost use Rattle.std.specs.Prelude.{◌≡◌};
-ghost use Rattle.aud_syntax.specs.Ties.View.{plain_expression, plain_name};
+ghost use Rattle.std.specs.Prelude.{◌≡◌, ◌++◌};
+ghost use Rattle.aud_syntax.specs.Ties.View.{plain_expression};
 ghost use Rattle.aud_typed.specs.Tree.{null};
 ghost use Rattle.aud_typed.specs.Ties.View.{plain_integer, plain_statement as plain_typed_statement};
 ghost use Rattle.aud_fault.specs.Least.{noted};
-ghost use Rattle.aud_check_bodies.specs.Assignments.{meaning_base, target_base, changed_faults, target_faults, assigned_faults, meaning_assigned, assigned_at, assigned, assign_faults, typed_assign};
+ghost use Rattle.aud_check_bodies.specs.Assignments.{meaning_base, target_base, changed_faults, target_faults, assigned_faults, meaning_assigned, assigned_at, assigned};
+ghost use Rattle.aud_typing.specs.Expressions.{checked_expression, expression_at};
 ghost use Rattle.aud_typing.specs.Ties.Typing.{plain_typed, in_box, Leaves};
 ghost use Rattle.aud_typing.specs.Ties.Entities.{plain_entity};
 
 use crate::declaration::value_for;
 use aud_fault::fault::Least;
-use aud_names::behind::{Left, boxed};
+use aud_names::behind::{Left, both, boxed};
 use aud_names::names::{Meaning, Scope};
-use aud_names::rules::{Base, base_asked, not_a_variable, right_type, wrong_kind_of_name};
-use aud_syntax::tree::{Expression, Name};
+use aud_names::rules::{
+    Base, base_asked, no_change_within_function, not_a_variable, right_type, wrong_kind_of_name,
+};
+use aud_syntax::tree::Expression;
 use aud_text::place::Pos;
 use aud_typed::program::{Reference, Statement as TypedStatement};
-use aud_typing::entity::{Denoting, Element, Entity, name_denotes};
-use aud_typing::expression::{arguments, expression, expression_at};
+use aud_typing::entity::{Denoting, Element, Entity, check_value};
+use aud_typing::expression::{expression, expression_at};
 use aud_typing::typed::{Operand, Typed, base_of};
 
 /// What a faulty statement is left as. What there is of it is dropped by one call, and not by its parts' drops at each place.
@@ -58,6 +61,8 @@ fn check_changed(meaning: Meaning, at: Pos, faults: &mut Least)
         Meaning::Object(object) => {
             if object.constant {
                 not_a_variable(at, faults);
+            } else {
+                no_change_within_function(!object.locked, at, faults);
             }
         }
         Meaning::Literal(_) => not_a_variable(at, faults),
@@ -69,7 +74,10 @@ fn check_changed(meaning: Meaning, at: Pos, faults: &mut Least)
         | Meaning::TaskType(_)
         | Meaning::Task(_)
         | Meaning::TaskArray(_)
-        | Meaning::Entry(_) => wrong_kind_of_name(at, faults),
+        | Meaning::Entry(_)
+        | Meaning::Protected(_)
+        | Meaning::Barred => wrong_kind_of_name(at, faults),
+        Meaning::Operation(_) => check_value(meaning, at, faults),
     }
 }
 
@@ -144,22 +152,25 @@ fn assigned(target: Entity, at: Pos, value: Operand) -> TypedStatement
     }
 }
 
-/// Checks an assignment (RM 5.2): notes its faults, and answers what is left of it.
-#[inline(never)]
-pub fn assignment(
-    target: &Name,
+/// Checks the assignment of an expression to what a name denotes, in a statement that begins at a place: notes its faults, and
+/// answers what is left of it.
+#[tactic(auto, using(aud_typing::proofs::Notes::noted_append))]
+pub fn expression_assigned(
+    target: Denoting,
     value: &Expression,
+    begin: Pos,
     scope: &Scope<'_>,
     faults: &mut Least,
 ) -> Left<TypedStatement>
     ensures { Leaves (in_box plain_typed_statement) result faults.old faults.new
-        (assign_faults (plain_name target.now) (plain_expression value.now) scope.now)
-        (typed_assign (plain_name target.now) (plain_expression value.now) scope.now) }
+        ((checked_expression (plain_expression value.now) scope.now).faults
+        ++ assigned_faults (plain_entity target.entity) target.at
+        (expression_at (plain_expression value.now))
+        (checked_expression (plain_expression value.now) scope.now).typed)
+        (assigned (plain_entity target.entity) begin
+        (checked_expression (plain_expression value.now) scope.now).typed) }
 {
-    let last = arguments(target, scope, faults)?;
-    let begin = target.first.ident.at;
-    let target = name_denotes(target, last, scope, faults);
-    let typed = expression(value, scope, faults)?;
+    let (target, typed) = both(target, expression(value, scope, faults))?;
     let at = expression_at(value);
     let value = Operand { at, typed };
     check_assigned(&target, &value, faults);

@@ -1,14 +1,14 @@
 // Calls.
 
-ghost use Rattle.std.specs.Prelude.{◌≡◌, ◌++◌, IfOk, OnOk};
+ghost use Rattle.std.specs.Prelude.{◌≡◌, ◌++◌, None, IfOk, OnOk};
 ghost use Rattle.aud_syntax.specs.Ties.View.{plain_name, plain_expression, plain_expressions};
-ghost use Rattle.aud_typed.specs.Ties.View.{plain_statement as plain_typed_statement};
+ghost use Rattle.aud_typed.specs.Ties.View.{plain_into, plain_calling, plain_statement as plain_typed_statement};
 ghost use Rattle.aud_fault.specs.Least.{noted};
-ghost use Rattle.aud_names.specs.Rules.{wrong_number_of_arguments};
+ghost use Rattle.aud_names.specs.Rules.{wrong_number_of_arguments, no_change_within_function};
 ghost use Rattle.aud_names.specs.Resolution.{name_ident, last_args};
 ghost use Rattle.aud_typing.specs.Expressions.{checked_arguments};
 ghost use Rattle.aud_check_bodies.specs.Arguments.{all_passed, arguments_faults};
-ghost use Rattle.aud_check_bodies.specs.Calls.{one_text, no_argument, element_called, array_called, put_faults, callee_faults, callee_meant, called_faults, put_out, procedure_called, called, called_as, call_faults, typed_call};
+ghost use Rattle.aud_check_bodies.specs.Calls.{one_text, no_argument, element_called, array_called, put_faults, callee_faults, operation_meant, callee_meant, may_change, operation_call_faults, called_faults, put_out, procedure_called, by_access, operation_called, called, called_as, call_faults, typed_call};
 ghost use Rattle.aud_check_bodies.specs.Ties.Passed.{plain_all_passed};
 ghost use Rattle.aud_check_bodies.specs.Ties.Tables.{plain_tables};
 ghost use Rattle.aud_typing.specs.Ties.Typing.{plain_typed, in_box, Leaves};
@@ -20,20 +20,28 @@ use crate::entry_call::entry_call;
 use crate::tables::Tables;
 use aud_fault::fault::Least;
 use aud_names::behind::{Left, Made, boxed};
-use aud_names::names::{Builtin, Entry, Meaning, NamedParameter, Scope};
-use aud_names::resolution::{Denoted, are_none, last_args, resolve};
-use aud_names::rules::{Base, wrong_kind_of_name, wrong_number_of_arguments};
+use aud_names::names::{
+    Builtin, Entry, Instance, Meaning, NamedParameter, Operation, Scope, is_in_function, is_inside,
+};
+use aud_names::resolution::{Denoted, are_none, is_value, last_args, resolve};
+use aud_names::rules::{
+    Base, no_change_within_function, wrong_kind_of_name, wrong_number_of_arguments,
+};
 use aud_syntax::tree::{Expression, Name};
 use aud_text::place::Pos;
-use aud_typed::program::{Argument, Statement as TypedStatement, TextExpression};
+use aud_typed::program::{
+    Argument, Calling, Reference, Statement as TypedStatement, TextExpression,
+};
+use aud_typing::entity::check_value;
 use aud_typing::expression::{arguments, expression_at};
 use aud_typing::typed::{Typed, wants, with_text};
 use std::alloc::Global;
 
-/// What is called of the program: a procedure, by its unit, or an entry.
+/// What is called of the program: a procedure, by its unit, a procedure of a protected object, or an entry.
 #[derive(Clone, Copy, PartialEq, Eq)]
 pub enum Callee {
     Procedure(usize),
+    Operation(Operation),
     Entry(Entry),
 }
 
@@ -101,9 +109,14 @@ fn check_callee(denoted: Denoted, args: &[Expression], last: &Typed, faults: &mu
             | Meaning::Procedure(_)
             | Meaning::TaskType(_)
             | Meaning::Task(_)
-            | Meaning::Entry(_),
+            | Meaning::Entry(_)
+            | Meaning::Protected(_)
+            | Meaning::Barred,
         ) => {
             wrong_kind_of_name(at, faults);
+        }
+        Some(Meaning::Operation(operation)) => {
+            check_value(Meaning::Operation(operation), at, faults);
         }
     }
 }
@@ -161,16 +174,69 @@ fn procedure_called(unit: usize, at: Pos, passed: Option<Vec<Argument>>) -> Type
 {
     match passed {
         None => TypedStatement::Null(at),
-        Some(arguments) => TypedStatement::ProcedureCall(at, unit, arguments),
+        Some(arguments) => TypedStatement::ProcedureCall(
+            at,
+            Calling {
+                unit,
+                arguments,
+                into: None,
+            },
+        ),
     }
 }
 
-/// A procedure of the program, or an entry.
+// A call of an operation: from within its object as of a procedure, and from outside.
+fn by_access(inside: bool, instance: Instance, at: Pos, calling: Calling) -> TypedStatement
+    ensures { plain_typed_statement result ≡ by_access inside instance at (plain_calling calling) }
+{
+    if inside {
+        TypedStatement::ProcedureCall(at, calling)
+    } else {
+        TypedStatement::OperationCall(at, instance.variable, calling)
+    }
+}
+
+/// A call of an operation of an object, whose value goes there, if what is passed has no fault; another is left as a null statement.
+pub fn operation_called(
+    operation: Operation,
+    into: Option<Reference>,
+    at: Pos,
+    passed: Option<Vec<Argument>>,
+) -> TypedStatement
+    ensures { plain_typed_statement result
+        ≡ operation_called operation (plain_into into) at (plain_all_passed passed) }
+{
+    let Some(arguments) = passed else {
+        drop(into);
+        return TypedStatement::Null(at);
+    };
+    let calling = Calling {
+        unit: operation.unit,
+        arguments,
+        into,
+    };
+    let instance = operation.instance;
+    by_access(is_inside(instance.access), instance, at, calling)
+}
+
+// An operation that is a procedure.
+fn operation_meant(operation: Operation) -> Option<Callee>
+    ensures { result ≡ operation_meant operation }
+{
+    if is_value(operation.subprogram) {
+        None
+    } else {
+        Some(Callee::Operation(operation))
+    }
+}
+
+/// A procedure of the program or of an object, or an entry.
 pub fn callee_meant(meaning: Option<Meaning>) -> Option<Callee>
     ensures { result ≡ callee_meant meaning }
 {
     match meaning {
         Some(Meaning::Procedure(unit)) => Some(Callee::Procedure(unit)),
+        Some(Meaning::Operation(operation)) => operation_meant(operation),
         Some(Meaning::Entry(entry)) => Some(Callee::Entry(entry)),
         _ => None,
     }
@@ -227,6 +293,35 @@ fn procedure_call(
     boxed(scope.alloc(), statement)
 }
 
+/// Whether an object may be changed where it is named (RM 9.5.1(2)).
+pub fn may_change(instance: Instance) -> bool
+    ensures { result ≡ may_change instance }
+{
+    !is_in_function(instance.access)
+}
+
+// A call of a procedure of an object.
+#[tactic(auto, using(aud_typing::proofs::Notes::noted_append))]
+fn operation_call(
+    operation: Operation,
+    profile: &[NamedParameter],
+    name: &Name,
+    at: Pos,
+    scope: &Scope<'_>,
+    faults: &mut Least,
+) -> Left<TypedStatement>
+    ensures { Leaves (in_box plain_typed_statement) result faults.old faults.new
+        (no_change_within_function (may_change operation.instance) at
+        ++ arguments_faults profile.now (plain_name name.now) at scope.now)
+        (operation_called operation None (name_ident (plain_name name.now)).at
+        (all_passed profile.now (last_args (plain_name name.now)) scope.now)) }
+{
+    no_change_within_function(may_change(operation.instance), at, faults);
+    let passed = all_given(profile, name, at, scope, faults)?;
+    let statement = operation_called(operation, None, name.first.ident.at, passed);
+    boxed(scope.alloc(), statement)
+}
+
 // A call of what a name denotes that is no procedure of the program.
 #[tactic(auto, using(aud_typing::proofs::Notes::noted_append))]
 fn other_call(
@@ -266,6 +361,10 @@ pub fn call_of(
         Some(Callee::Procedure(unit)) => {
             let profile = tables.profile(unit);
             procedure_call(unit, profile, name, denoted.at, scope, faults)
+        }
+        Some(Callee::Operation(operation)) => {
+            let profile = tables.profile(operation.unit);
+            operation_call(operation, profile, name, denoted.at, scope, faults)
         }
         Some(Callee::Entry(entry)) => entry_call(entry, name, denoted.at, scope, tables, faults),
         None => other_call(denoted, name, scope, faults),

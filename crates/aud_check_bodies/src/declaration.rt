@@ -144,7 +144,7 @@ pub fn given_value(
     Ok(value_for(known(subtype), Box::into_inner(typed)))
 }
 
-fn initial_value(
+pub fn initial_value(
     initial: Option<&Expression>,
     subtype: Option<Subtype>,
     scope: &Scope<'_>,

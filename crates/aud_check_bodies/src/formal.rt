@@ -6,7 +6,10 @@ ghost use Rattle.aud_syntax.specs.Ties.View.{plain_formal};
 ghost use Rattle.aud_fault.specs.Least.{noted};
 ghost use Rattle.aud_check_bodies.specs.Declarations.{subtype_faults, subtype_meant};
 ghost use Rattle.aud_check_bodies.specs.Formals.{is_in, own_name, mark_meant, parameters_of, checked_formal, checked_formals};
+ghost use Rattle.aud_check_bodies.specs.Objects.{result_meant};
 ghost use Rattle.aud_check_bodies.specs.Ties.DeclarativePart.{DeclaresFormals};
+ghost use Rattle.aud_check_bodies.specs.Ties.Objects.{same_subtype};
+ghost use Rattle.aud_typing.specs.Ties.Typing.{Leaves};
 ghost use Rattle.aud_names.specs.Names.{hiding, with_own};
 ghost use Rattle.aud_names.specs.Ties.Regions.{plain_region, plain_regions, plain_place, names_in};
 
@@ -121,6 +124,24 @@ fn formal(
     declare(&formal.names, kind, region, faults)?;
     let parameter = Parameter { mode, subtype };
     add(&formal.names, parameter, region.alloc, profile)
+}
+
+/// The subtype of the value of a function of this name, whose formals are declared in a region that lies within these: notes its faults.
+pub fn result_mark<'x>(
+    own: &'x Ident,
+    mark: &Ident,
+    region: &'x Region,
+    outer: &'x [&'x Region],
+    faults: &mut Least,
+) -> Made<Option<Subtype>>
+    ensures { Leaves same_subtype result faults.old faults.new
+        (subtype_faults (result_meant own.now mark.now (plain_region region.now)
+        (plain_regions outer.now)) mark.now.at)
+        (subtype_meant (result_meant own.now mark.now (plain_region region.now)
+        (plain_regions outer.now))) }
+{
+    let scope = Scope::behind_formals(own, region, outer)?;
+    Ok(subtype_mark(mark, &scope, faults))
 }
 
 /// Declares formals in a region, which lies within these (RM 6.1): notes their faults, and answers what calls and accepts

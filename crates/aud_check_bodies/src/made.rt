@@ -212,11 +212,24 @@ pub fn accepted(alloc: Global, statement: Box<AcceptStatement>) -> Left<Statemen
     boxed(alloc, Statement::Accept(statement))
 }
 
-/// A procedure's body, which begins at a place, with the level and the number of its region (RM 6.3).
+/// A body that is entered, which begins at a place, with the level and the number of its region (RM 6.3).
 #[inline(never)]
-pub fn unit_of(alloc: Global, level: usize, region: usize, at: Pos, body: Box<Body>) -> Left<Unit>
+pub fn unit_of(
+    alloc: Global,
+    level: usize,
+    region: usize,
+    is_function: bool,
+    at: Pos,
+    body: Box<Body>,
+) -> Left<Unit>
     ensures { IfOk result (λ unit. plain_unit unit.value
-        ≡ record { level = level; region = region; at = at; body = plain_body body.value }) }
+        ≡ record {
+          level = level;
+          region = region;
+          is_function = is_function;
+          at = at;
+          body = plain_body body.value;
+        }) }
 {
     let body = Box::into_inner(body);
     boxed(
@@ -224,6 +237,7 @@ pub fn unit_of(alloc: Global, level: usize, region: usize, at: Pos, body: Box<Bo
         Unit {
             level,
             region,
+            is_function,
             at,
             body,
         },

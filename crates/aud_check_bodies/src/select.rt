@@ -19,7 +19,7 @@ use crate::tables::Tables;
 use aud_fault::fault::Least;
 use aud_names::behind::{Left, Made, both, boxed};
 use aud_names::names::{Meaning, Scope};
-use aud_names::resolution::{Denoted, resolve};
+use aud_names::resolution::{Denoted, is_value, resolve};
 use aud_names::rules::not_an_entry;
 use aud_syntax::tree::{Name, Otherwise};
 use aud_text::place::Pos;
@@ -35,6 +35,11 @@ fn check_selected(meaning: Option<Meaning>, at: Pos, faults: &mut Least)
 {
     match meaning {
         Some(Meaning::Builtin(_) | Meaning::Procedure(_)) => not_an_entry(at, faults),
+        Some(Meaning::Operation(operation)) => {
+            if !is_value(operation.subprogram) {
+                not_an_entry(at, faults);
+            }
+        }
         _ => {}
     }
 }
@@ -72,7 +77,9 @@ fn selected_as(
 {
     match callee {
         Some(Callee::Entry(entry)) => entry_called(entry, name, denoted.at, scope, tables, faults),
-        Some(Callee::Procedure(_)) => no_entry(callee, denoted, name, scope, tables, faults),
+        Some(Callee::Procedure(_) | Callee::Operation(_)) => {
+            no_entry(callee, denoted, name, scope, tables, faults)
+        }
         None => no_entry(callee, denoted, name, scope, tables, faults),
     }
 }

@@ -2,52 +2,133 @@
 
 ghost use Rattle.std.specs.Prelude.{true, IfOk, OnOk};
 ghost use Rattle.aud_syntax.specs.declared.tree.TaskBody.{out-TaskBody};
-ghost use Rattle.aud_syntax.specs.Ties.View.{plain_expression, plain_maybe, plain_statement, plain_others, plain_statements, plain_if_statement, arm_list, plain_loop_statement, plain_parameter, plain_block_statement, plain_body, handler_list, plain_declaration, plain_declarations, plain_procedure, plain_task_body, plain_accept, plain_alternative as plain_source_alternative, guarded_list, plain_select_statement, plain_selected_call, plain_other};
+ghost use Rattle.aud_syntax.specs.declared.tree.ProcedureDeclaration.{out-ProcedureDeclaration};
+ghost use Rattle.aud_syntax.specs.declared.tree.OperationBody.{out-OperationBody};
+ghost use Rattle.aud_syntax.specs.declared.tree.ProtectedBody.{out-ProtectedBody};
+ghost use Rattle.aud_syntax.specs.Ties.View.{plain_expression, plain_maybe, plain_statement, plain_others, plain_statements, plain_if_statement, arm_list, plain_loop_statement, plain_parameter, plain_block_statement, plain_body, handler_list, plain_declaration, plain_declarations, plain_procedure, plain_task_body, plain_operation_body, operation_body_list, plain_protected_body, plain_accept, plain_alternative as plain_source_alternative, guarded_list, plain_select_statement, plain_selected_call, plain_other};
 ghost use Rattle.aud_typed.specs.Ties.View.{plain_body as plain_typed_body, plain_statement as plain_typed_statement};
-ghost use Rattle.aud_check_bodies.specs.Statements.{labelled, arm_of, checked_loop, checked_statements, checked_others, checked_arms, checked_body, checked_handlers, checked_accept, checked_alternative, checked_alternatives, checked_otherwise, checked_declaration, checked_declarations, body_behind};
+ghost use Rattle.aud_check_bodies.specs.Statements.{labelled, arm_of, checked_loop, checked_statements, checked_others, checked_arms, checked_body, checked_handlers, checked_accept, checked_alternative, checked_alternatives, checked_otherwise, checked_declaration, checked_declarations, checked_bodies, checked_operation, body_behind};
 ghost use Rattle.aud_check_bodies.specs.Tables.{next_region, region_kept};
 ghost use Rattle.aud_check_bodies.specs.Tasks.{with_bodies};
 ghost use Rattle.aud_check_bodies.specs.Ties.Arms.{plain_arm, plain_arms as plain_typed_arms, plain_handlers, plain_parts, plain_sequence, plain_items, plain_accepted, plain_alternative, plain_alternatives};
 ghost use Rattle.aud_check_bodies.specs.Ties.DeclarativePart.{Declares, Enters};
 ghost use Rattle.aud_names.specs.Ties.Regions.{plain_place};
+ghost use Rattle.aud_check_bodies.specs.Ties.Objects.{ChecksBodies, one_place, both_places};
 ghost use Rattle.aud_check_bodies.specs.Ties.Tables.{plain_tables};
 ghost use Rattle.aud_typing.specs.Ties.Typing.{in_box};
 ghost use Rattle.aud_check_bodies.specs.Ties.Within.{around_of, around_entering, Checks, ChecksStatement};
 
-use crate::accept::{accept_head, number_of, with_accepted};
-use crate::assignment::assignment;
+use crate::accept::accept_head;
+use crate::accept::number_of;
+use crate::accept::with_accepted;
 use crate::call::call;
-use crate::declaration::{DeclarativePart, arrays, declare_procedure, exceptions, objects};
-use crate::delay::{delay, delay_statement};
+use crate::declaration::DeclarativePart;
+use crate::declaration::arrays;
+use crate::declaration::declare_procedure;
+use crate::declaration::exceptions;
+use crate::declaration::objects;
+use crate::delay::delay;
+use crate::delay::delay_statement;
 use crate::entry_call::entry_call_of;
 use crate::formal::formals;
-use crate::handler::{all_choices, raise};
-use crate::iteration::{For, bounds, for_of, forever, while_of};
-use crate::labels::{Label, begin_at, exit_loop, with_label};
-use crate::leaving::{exit, return_from};
-use crate::made::{
-    Parts, accept_doing, accept_of, accepted, arm_of, block_of, body_of, handler_of, if_of,
-    in_order, in_row, null_at, unit_of,
-};
-use crate::select::{accepting, call_head, delaying, select_of, terminating};
-use crate::tables::{Tables, loop_region};
-use crate::task::{body_numbers, declare_task, running_within, with_activation, without_bodies};
-use crate::within::{Entering, Within};
+use crate::handler::all_choices;
+use crate::handler::raise;
+use crate::iteration::For;
+use crate::iteration::bounds;
+use crate::iteration::for_of;
+use crate::iteration::forever;
+use crate::iteration::while_of;
+use crate::labels::Label;
+use crate::labels::begin_at;
+use crate::labels::exit_loop;
+use crate::labels::with_label;
+use crate::leaving::exit;
+use crate::leaving::return_from;
+use crate::made::Parts;
+use crate::made::accept_doing;
+use crate::made::accept_of;
+use crate::made::accepted;
+use crate::made::arm_of;
+use crate::made::block_of;
+use crate::made::body_of;
+use crate::made::handler_of;
+use crate::made::if_of;
+use crate::made::in_order;
+use crate::made::in_row;
+use crate::made::null_at;
+use crate::made::unit_of;
+use crate::object::body_number;
+use crate::object::declare_protected;
+use crate::object::without_object_bodies;
+use crate::object::without_part_bodies;
+use crate::operation::DeclaredParts;
+use crate::operation::Shape;
+use crate::operation::body_shape;
+use crate::operation::head_leaves;
+use crate::operation::is_function;
+use crate::operation::matched;
+use crate::operation::object_body;
+use crate::operation::place_of;
+use crate::select::accepting;
+use crate::select::call_head;
+use crate::select::delaying;
+use crate::select::select_of;
+use crate::select::terminating;
+use crate::tables::Tables;
+use crate::tables::loop_region;
+use crate::task::body_numbers;
+use crate::task::declare_task;
+use crate::task::running_within;
+use crate::task::with_activation;
+use crate::task::without_bodies;
+use crate::value::assignment;
+use crate::within::Entering;
+use crate::within::Leaves;
+use crate::within::Within;
 use aud_fault::fault::Least;
-use aud_names::behind::{Left, Made, both, push};
-use aud_names::names::{Region, Scope, frame_within, task_within};
-use aud_names::rules::{right_label_at_end, right_name_at_end};
-use aud_syntax::tree::{
-    AcceptStatement, Alternative, Arm, BlockStatement, Body, Declaration, Guarded, Handler,
-    IfStatement, Iteration, LoopParameter, LoopStatement, Otherwise, ProcedureDeclaration,
-    SelectStatement, SelectedCall, Statement, Statements, TaskBody,
-};
-use aud_typed::program::{
-    AcceptStatement as TypedAccept, Alternative as TypedAlternative, Arm as TypedArm,
-    Body as TypedBody, Handler as TypedHandler, Statement as TypedStatement,
-    Statements as TypedStatements,
-};
-use aud_typing::condition::{condition, maybe_condition};
+use aud_names::awaited::AwaitedPart;
+use aud_names::behind::Left;
+use aud_names::behind::Made;
+use aud_names::behind::both;
+use aud_names::behind::push;
+use aud_names::names::Access;
+use aud_names::names::Region;
+use aud_names::names::Scope;
+use aud_names::names::frame_within;
+use aud_names::names::task_within;
+use aud_names::objects::awaited_parts;
+use aud_names::rules::right_label_at_end;
+use aud_names::rules::right_name_at_end;
+use aud_syntax::tree::AcceptStatement;
+use aud_syntax::tree::Alternative;
+use aud_syntax::tree::Arm;
+use aud_syntax::tree::BlockStatement;
+use aud_syntax::tree::Body;
+use aud_syntax::tree::Declaration;
+use aud_syntax::tree::Guarded;
+use aud_syntax::tree::Handler;
+use aud_syntax::tree::IfStatement;
+use aud_syntax::tree::Iteration;
+use aud_syntax::tree::LoopParameter;
+use aud_syntax::tree::LoopStatement;
+use aud_syntax::tree::OperationBody;
+use aud_syntax::tree::Otherwise;
+use aud_syntax::tree::ProcedureDeclaration;
+use aud_syntax::tree::ProtectedBody;
+use aud_syntax::tree::SelectStatement;
+use aud_syntax::tree::SelectedCall;
+use aud_syntax::tree::Statement;
+use aud_syntax::tree::Statements;
+use aud_syntax::tree::TaskBody;
+use aud_typed::program::AcceptStatement as TypedAccept;
+use aud_typed::program::Alternative as TypedAlternative;
+use aud_typed::program::Arm as TypedArm;
+use aud_typed::program::Body as TypedBody;
+use aud_typed::program::Handler as TypedHandler;
+use aud_typed::program::Statement as TypedStatement;
+use aud_typed::program::Statements as TypedStatements;
+use aud_typing::condition::condition;
+use aud_typing::condition::maybe_condition;
 
 // What is left of a statement.
 type Stated = Left<TypedStatement>;
@@ -67,7 +148,7 @@ fn statement<'a>(
     let scope = within.scope;
     match statement {
         Statement::Null(at) => null_at(scope.alloc(), *at),
-        Statement::Assign(target, value) => assignment(target, value, scope, faults),
+        Statement::Assign(target, value) => assignment(target, value, scope, &*tables, faults),
         Statement::Call(name) => call(name, scope, &*tables, faults),
         Statement::If(statement) => if_statement(statement, within, tables, faults),
         Statement::Loop(statement) => loop_statement(statement, within, tables, faults),
@@ -76,7 +157,7 @@ fn statement<'a>(
             let found = exit_loop(name, within.labels);
             exit(*at, found, condition, scope, faults)
         }
-        Statement::Return(at, value) => return_from(*at, value, within.in_task, scope, faults),
+        Statement::Return(at, value) => return_from(*at, value, within.leaves, scope, faults),
         Statement::Raise(at, name) => raise(*at, name, within.in_handler, scope, faults),
         Statement::Accept(source) => {
             let typed = accept(source, within, tables, faults)?;
@@ -202,7 +283,7 @@ fn for_loop<'a>(
         scope: &Scope::new(&own, &outer),
         labels: within.labels,
         in_handler: within.in_handler,
-        in_task: within.in_task,
+        leaves: within.leaves,
         accepting: within.accepting,
     };
     let body = loop_body(node, inner, tables, faults);
@@ -239,7 +320,7 @@ fn loop_body<'a>(
         scope: within.scope,
         labels: &labels,
         in_handler: within.in_handler,
-        in_task: within.in_task,
+        leaves: within.leaves,
         accepting: within.accepting,
     };
     statements(&node.statements, inner, tables, faults)
@@ -274,7 +355,7 @@ fn accept<'a>(
         scope: &Scope::new(&head.region, &outer),
         labels: &[],
         in_handler: within.in_handler,
-        in_task: false,
+        leaves: Leaves::Procedure,
         accepting: &accepting,
     };
     let parts = body(source, inner, tables, faults)?;
@@ -423,7 +504,7 @@ fn block_statement<'a>(
         outer: &outer,
         labels: &labels,
         in_handler: within.in_handler,
-        in_task: within.in_task,
+        leaves: within.leaves,
         accepting: within.accepting,
         of_task: false,
     };
@@ -458,6 +539,7 @@ pub fn declared<'a>(
     };
     declarations(source, outer, &mut part, tables, faults)?;
     without_bodies(&part.region.awaited, faults);
+    without_object_bodies(&part.region.objects, faults);
     tables.name_region(number, &part.region)?;
     Ok(part)
 }
@@ -487,12 +569,31 @@ pub fn body_behind<'a>(
         scope: &Scope::new(&region, entering.outer),
         labels: entering.labels,
         in_handler: entering.in_handler,
-        in_task: entering.in_task,
+        leaves: entering.leaves,
         accepting: entering.accepting,
     };
     let parts = body(node, within, tables, faults);
     let (elaborations, parts) = both(elaborations, parts)?;
     body_of(region.alloc, node, elaborations, activates, parts)
+}
+
+// The declarations of a procedure's body, in the region of its formals.
+#[cycle(statement)]
+#[inline(never)]
+fn procedure_part<'a>(
+    node: &'a ProcedureDeclaration,
+    region: Region,
+    outer: &[&'a Region],
+    tables: &mut Tables,
+    faults: &mut Least,
+) -> Made<DeclarativePart>
+    ensures { IfOk result (λ part. Enters faults.old faults.new outer.now part
+        (next_region (plain_tables tables.old)) (plain_tables tables.new)
+        (with_bodies (checked_declarations (plain_declarations
+        (out-ProcedureDeclaration node.now).declarations.items)
+        (plain_place region outer.now) (region_kept (plain_tables tables.old))))) }
+{
+    declared(&node.declarations, region, outer, tables, faults)
 }
 
 // A procedure (RM 6.1, 6.3): adds its name to the part, and its formals and its body to the tables.
@@ -519,18 +620,18 @@ fn procedure<'a>(
     tables.keep_unit(alloc, profile)?;
     let level = region.level;
     let own = tables.next_region();
-    let inner = declared(&node.declarations, region, &regions, tables, faults)?;
+    let inner = procedure_part(node, region, &regions, tables, faults)?;
     let entering = Entering {
         outer: &regions,
         labels: &[],
         in_handler: false,
-        in_task: false,
+        leaves: Leaves::Procedure,
         accepting: &[],
         of_task: false,
     };
     let body = body_behind(inner, &node.body, entering, tables, faults)?;
     right_name_at_end(&node.name.name, &node.body.name, faults);
-    let unit = unit_of(alloc, level, own, node.at, body)?;
+    let unit = unit_of(alloc, level, own, false, node.at, body)?;
     tables.put_unit(number, Box::into_inner(unit));
     Ok(())
 }
@@ -581,14 +682,185 @@ fn task_body<'a>(
         outer: &regions,
         labels: &[],
         in_handler: false,
-        in_task: true,
+        leaves: Leaves::Task,
         accepting: &[],
         of_task: true,
     };
     let body = body_behind(inner, &node.body, entering, tables, faults)?;
     right_name_at_end(&node.name.name, &node.body.name, faults);
-    let unit = unit_of(alloc, level, own, node.at, body)?;
+    let unit = unit_of(alloc, level, own, false, node.at, body)?;
     tables.put_unit(numbers.unit, Box::into_inner(unit));
+    Ok(())
+}
+
+// The declarations of the body of an operation or entry, in the region of its formals.
+#[cycle(statement)]
+#[inline(never)]
+fn operation_part<'a>(
+    node: &'a OperationBody,
+    region: Region,
+    outer: &[&'a Region],
+    tables: &mut Tables,
+    faults: &mut Least,
+) -> Made<DeclarativePart>
+    ensures { IfOk result (λ part. Enters faults.old faults.new outer.now part
+        (next_region (plain_tables tables.old)) (plain_tables tables.new)
+        (with_bodies (checked_declarations (plain_declarations
+        (out-OperationBody node.now).declarations.items)
+        (plain_place region outer.now) (region_kept (plain_tables tables.old))))) }
+{
+    declared(&node.declarations, region, outer, tables, faults)
+}
+
+// The body of an operation or entry (RM 9.4(8), 9.5.2), in the region of its object: adds it to the tables, where its place was kept.
+#[cycle(statement)]
+#[inline(never)]
+fn operation_body<'a>(
+    node: &'a OperationBody,
+    declared_parts: DeclaredParts<'_>,
+    own: &'a Region,
+    outer: &'a [&'a Region],
+    awaited: &mut Vec<AwaitedPart>,
+    tables: &mut Tables,
+    faults: &mut Least,
+) -> Made<()>
+    ensures { OnOk result (ChecksBodies faults.old faults.new awaited.new.items
+        (plain_tables tables.new) (checked_operation (plain_operation_body node.now)
+        (one_place declared_parts.entry own.now outer.now) awaited.old.items
+        (plain_tables tables.old))) }
+{
+    let alloc = own.alloc;
+    let kind = &node.kind;
+    let ident = &node.name;
+    let shape = body_shape(kind, ident, &node.formals, own, outer, faults)?;
+    let unit = matched(
+        kind,
+        ident,
+        &shape,
+        declared_parts,
+        own,
+        outer,
+        awaited,
+        tables,
+        faults,
+    );
+    let (shape, number) = both(shape, unit)?;
+    let Shape {
+        region,
+        profile,
+        returned,
+    } = shape;
+    drop(profile);
+    let regions = Scope::new(own, outer).regions()?;
+    let level = region.level;
+    let own_region = tables.next_region();
+    let inner = operation_part(node, region, &regions, tables, faults)?;
+    let entering = Entering {
+        outer: &regions,
+        labels: &[],
+        in_handler: false,
+        leaves: head_leaves(kind, returned),
+        accepting: &[],
+        of_task: false,
+    };
+    let body = body_behind(inner, &node.body, entering, tables, faults)?;
+    right_name_at_end(&ident.name, &node.body.name, faults);
+    let unit = unit_of(alloc, level, own_region, is_function(kind), node.at, body)?;
+    tables.put_unit(number, Box::into_inner(unit));
+    Ok(())
+}
+
+// The bodies of an object's operations and entries, each in the object's region as it is seen there.
+#[cycle(statement)]
+fn operation_bodies<'a>(
+    bodies: &'a [OperationBody],
+    declared_parts: DeclaredParts<'_>,
+    inside: (&'a Region, &'a [&'a Region]),
+    in_function: (&'a Region, &'a [&'a Region]),
+    awaited: &mut Vec<AwaitedPart>,
+    tables: &mut Tables,
+    faults: &mut Least,
+) -> Made<()>
+    ensures { OnOk result (ChecksBodies faults.old faults.new awaited.new.items
+        (plain_tables tables.new) (checked_bodies (operation_body_list bodies.now)
+        (both_places declared_parts.entry inside.entry in_function.entry) awaited.old.items
+        (plain_tables tables.old))) }
+{
+    for next in bodies {
+        let (own, outer) = place_of(&next.kind, inside, in_function);
+        operation_body(next, declared_parts, own, outer, awaited, tables, faults)?;
+    }
+    Ok(())
+}
+
+// The bodies that stand in the body of an object.
+#[cycle(statement)]
+#[inline(never)]
+fn bodies_within<'a>(
+    node: &'a ProtectedBody,
+    declared_parts: DeclaredParts<'_>,
+    inside: (&'a Region, &'a [&'a Region]),
+    in_function: (&'a Region, &'a [&'a Region]),
+    awaited: &mut Vec<AwaitedPart>,
+    tables: &mut Tables,
+    faults: &mut Least,
+) -> Made<()>
+    ensures { OnOk result (ChecksBodies faults.old faults.new awaited.new.items
+        (plain_tables tables.new)
+        (checked_bodies (operation_body_list (out-ProtectedBody node.now).bodies.items)
+        (both_places declared_parts.entry inside.entry in_function.entry) awaited.old.items
+        (plain_tables tables.old))) }
+{
+    let bodies = &node.bodies;
+    operation_bodies(
+        bodies,
+        declared_parts,
+        inside,
+        in_function,
+        awaited,
+        tables,
+        faults,
+    )
+}
+
+// The body of a protected object (RM 9.4(7)): adds the bodies of its operations and entries to the tables.
+#[cycle(statement)]
+#[inline(never)]
+fn protected_body<'a>(
+    node: &'a ProtectedBody,
+    outer: &[&'a Region],
+    part: &mut DeclarativePart,
+    tables: &mut Tables,
+    faults: &mut Least,
+) -> Made<()>
+    ensures { OnOk result (Declares faults.old faults.new outer.now part.old part.new
+        (plain_tables tables.new)
+        (checked_declaration (plain_protected_body node.now)
+        (plain_place part.old.region outer.now) (plain_tables tables.old))) }
+{
+    let object = body_number(&node.name, &mut part.region, tables, faults)?;
+    let region = &part.region;
+    let name = &node.name.name;
+    let inside = object_body(name, object, Access::Inside, region, outer)?;
+    let in_function = object_body(name, object, Access::InFunction, region, outer)?;
+    let around = task_within(&inside.around, region, &*outer)?;
+    let around_function = task_within(&in_function.around, region, &*outer)?;
+    let mut awaited = awaited_parts(region.alloc, &region.parts, object)?;
+    let declared_parts = DeclaredParts {
+        object,
+        parts: &region.parts,
+    };
+    bodies_within(
+        node,
+        declared_parts,
+        (&inside.own, &around),
+        (&in_function.own, &around_function),
+        &mut awaited,
+        tables,
+        faults,
+    )?;
+    without_part_bodies(&awaited, faults);
+    right_name_at_end(name, &node.end_name, faults);
     Ok(())
 }
 
@@ -622,6 +894,8 @@ fn declaration<'a>(
         Declaration::Procedure(node) => procedure(node, outer, part, tables, faults),
         Declaration::Task(task) => declare_task(task, outer, part, tables, faults),
         Declaration::TaskBody(node) => task_body(node, outer, part, tables, faults),
+        Declaration::Protected(node) => declare_protected(node, outer, part, tables, faults),
+        Declaration::ProtectedBody(node) => protected_body(node, outer, part, tables, faults),
     }
 }
 
@@ -664,7 +938,7 @@ fn body<'a>(
         scope: within.scope,
         labels: within.labels,
         in_handler: true,
-        in_task: within.in_task,
+        leaves: within.leaves,
         accepting: within.accepting,
     };
     let handlers = handlers(&node.handlers, inner, tables, faults);

@@ -1,9 +1,9 @@
 // The tables of a program, as a check of its text makes them.
 
 ghost use Rattle.std.specs.Prelude.{◌≡◌, [], ◌++◌, option_map, IfOk, OnOk};
-ghost use Rattle.aud_typed.specs.Ties.View.{plain_shown, plain_region as plain_named_region, plain_unit};
+ghost use Rattle.aud_typed.specs.Ties.View.{entry_with, plain_boolean, plain_shown, plain_region as plain_named_region, plain_unit};
 ghost use Rattle.aud_check_bodies.specs.Regions.{shown_of, shown_row, shown, shown_before, shown_names, loop_region};
-ghost use Rattle.aud_check_bodies.specs.Tables.{no_tables, next_region, with_region, region_kept, region_named, next_unit, no_body, unit_kept, with_unit, next_task, task_kept, next_entry, entry_kept, profile_of, entry_profile_of};
+ghost use Rattle.aud_check_bodies.specs.Tables.{no_tables, next_region, with_region, region_kept, region_named, next_unit, no_body, unit_kept, with_unit, next_task, task_kept, next_entry, entry_kept, protected_entry_kept, with_barrier, next_object, object_kept, profile_of, entry_profile_of};
 ghost use Rattle.aud_names.specs.Ties.Regions.{plain_region};
 ghost use Rattle.aud_check_bodies.specs.Ties.Tables.{plain_tables};
 
@@ -14,14 +14,16 @@ use aud_syntax::tree::Ident;
 use aud_text::name::Name;
 use aud_text::place::Pos;
 use aud_typed::program::{
-    Body, Named, Shown, Statement, Statements, Subtype, TaskType, Unit, Variable,
+    Body, BooleanExpression, Entry, EntryBody, Named, ProtectedObject, Shown, Statement,
+    Statements, Subtype, TaskType, Unit, Variable,
 };
 use std::alloc::Global;
 use std::mem::replace;
 
 /// The variables and constants of each region that has been entered, by the regions' numbers, and the
-/// names of the exceptions, by theirs; of each procedure and task that has been declared its formals, and its body,
-/// by the number of its unit; the task types, by theirs; and of each entry its name and its formals, by theirs.
+/// names of the exceptions, by theirs; of each procedure, task, operation and protected entry that has been declared its
+/// formals, and its body, by the number of its unit; the task types and the protected objects, by theirs; and of each entry
+/// what it is and its formals, by theirs.
 #[derive(Drop)]
 pub struct Tables {
     pub regions: Vec<Vec<Named>>,
@@ -29,7 +31,8 @@ pub struct Tables {
     pub profiles: Vec<Vec<NamedParameter>>,
     pub units: Vec<Unit>,
     pub tasks: Vec<TaskType>,
-    pub entries: Vec<Name>,
+    pub objects: Vec<ProtectedObject>,
+    pub entries: Vec<Entry>,
     pub entry_profiles: Vec<Vec<NamedParameter>>,
 }
 
@@ -44,6 +47,7 @@ impl Tables {
             profiles: Vec::new(alloc),
             units: Vec::new(alloc),
             tasks: Vec::new(alloc),
+            objects: Vec::new(alloc),
             entries: Vec::new(alloc),
             entry_profiles: Vec::new(alloc),
         }
@@ -145,13 +149,65 @@ impl Tables {
         self.entries.len()
     }
 
-    /// Adds an entry of this name with these formals.
+    /// Adds an entry of a task, of this name and with these formals.
     pub fn keep_entry(&mut self, name: Name, profile: Vec<NamedParameter>) -> Made<()>
         ensures { OnOk result (plain_tables self.new
             ≡ entry_kept name profile.items (plain_tables self.old)) }
     {
-        self.entries.push(name)?;
+        self.entries.push(Entry { name, body: None })?;
         self.entry_profiles.push(profile)?;
+        Ok(())
+    }
+
+    /// Adds a protected entry of this name and with these formals, and keeps the place of its body, which has the next unit.
+    pub fn keep_protected_entry(
+        &mut self,
+        alloc: Global,
+        name: Name,
+        profile: Vec<NamedParameter>,
+    ) -> Made<()>
+        ensures { OnOk result (plain_tables self.new
+            ≡ protected_entry_kept name profile.items (plain_tables self.old)) }
+    {
+        let body = Some(EntryBody {
+            unit: self.units.len(),
+            barrier: BooleanExpression::Truth(true),
+        });
+        self.keep_unit(alloc, Vec::new(alloc))?;
+        self.entries.push(Entry { name, body })?;
+        self.entry_profiles.push(profile)?;
+        Ok(())
+    }
+
+    /// Puts the barrier of an entry where its place was kept (RM 9.5.2(7)).
+    #[tactic(auto, using(crate::proofs::Kept::entry_past))]
+    pub fn put_barrier(&mut self, number: usize, barrier: BooleanExpression)
+        ensures { plain_tables self.new
+            ≡ with_barrier number (plain_boolean barrier) (plain_tables self.old) }
+    {
+        if number < self.entries.len() {
+            let entry = &mut self.entries[number];
+            let unit = body_unit(&entry.body);
+            let body = Some(EntryBody { unit, barrier });
+            drop(replace(&mut entry.body, body));
+        } else {
+            drop(barrier);
+        }
+    }
+
+    /// The number of the protected object that is declared next.
+    pub fn next_object(&self) -> usize
+        ensures { result ≡ next_object (plain_tables self.now) }
+    {
+        self.objects.len()
+    }
+
+    /// Adds a protected object of this name with these entries.
+    pub fn keep_object(&mut self, name: Name, entries: Vec<usize>) -> Made<()>
+        ensures { OnOk result (plain_tables self.new
+            ≡ object_kept name entries.items (plain_tables self.old)) }
+    {
+        self.objects.push(ProtectedObject { name, entries })?;
         Ok(())
     }
 
@@ -176,6 +232,16 @@ impl Tables {
     }
 }
 
+// The unit of an entry's body, if it has one.
+fn body_unit(body: &Option<EntryBody>) -> usize
+    ensures { result ≡ (entry_with [] body.now).unit }
+{
+    match body {
+        None => 0,
+        Some(body) => body.unit,
+    }
+}
+
 // What stands in the place of a unit whose body is not checked yet.
 fn no_body(alloc: Global) -> Unit
     ensures { plain_unit result ≡ no_body }
@@ -184,6 +250,7 @@ fn no_body(alloc: Global) -> Unit
     Unit {
         level: 0,
         region: 0,
+        is_function: false,
         at,
         body: Body {
             declarations: Vec::new(alloc),
@@ -217,7 +284,7 @@ fn shown_row(subtype: Option<Subtype>, count: usize) -> Shown
     }
 }
 
-// How a variable, constant, array or task is shown; what stands for something else has no cells.
+// How a variable, constant, array, task or protected object is shown; what stands for something else has no cells.
 fn shown(meaning: Meaning) -> Option<Shown>
     ensures { option_map plain_shown result ≡ shown meaning }
 {
@@ -227,7 +294,7 @@ fn shown(meaning: Meaning) -> Option<Shown>
             let count = length_between(array.low, array.high);
             Some(shown_row(array.subtype, count))
         }
-        Meaning::Task(_) => Some(Shown::Hidden(1)),
+        Meaning::Task(_) | Meaning::Protected(_) => Some(Shown::Hidden(1)),
         Meaning::TaskArray(array) => Some(Shown::Hidden(length_between(array.low, array.high))),
         _ => None,
     }
@@ -272,6 +339,7 @@ pub fn loop_region(parameter: &Ident, scope: &Scope<'_>) -> Made<Region>
         variable,
         subtype: Some(Subtype::Integer),
         constant: true,
+        locked: false,
     };
     region.symbols.insert(name, Meaning::Object(parameter))?;
     region.cells = 1;

@@ -6,12 +6,12 @@ ghost use Rattle.aud_typed.specs.Ties.View.{plain_program};
 ghost use Rattle.aud_names.specs.Names.{library, outermost};
 ghost use Rattle.aud_check_bodies.specs.Programs.{faults as program_faults, typed as typed_program};
 ghost use Rattle.aud_names.specs.Ties.Regions.{plain_regions};
-ghost use Rattle.aud_typing.specs.Ties.Typing.{Leaves};
+ghost use Rattle.aud_typing.specs.Ties.Typing.{Leaves as Shown};
 
 use crate::made::unit_of;
 use crate::statement::{body_behind, declared};
 use crate::tables::Tables;
-use crate::within::Entering;
+use crate::within::{Entering, Leaves};
 use aud_fault::fault::Least;
 use aud_names::behind::Made;
 use aud_names::names::{Region, regions_of_library};
@@ -28,7 +28,7 @@ fn typed_within<'a>(
     faults: &mut Least,
 ) -> Made<Program>
     requires { plain_regions outer.now ≡ library node.now.name.name ∷ outermost }
-    ensures { Leaves plain_program result faults.old faults.new
+    ensures { Shown plain_program result faults.old faults.new
         (program_faults (plain_unit node.now))
         (typed_program (plain_unit node.now)) }
 {
@@ -41,13 +41,13 @@ fn typed_within<'a>(
         outer,
         labels: &[],
         in_handler: false,
-        in_task: false,
+        leaves: Leaves::Procedure,
         accepting: &[],
         of_task: false,
     };
     let body = body_behind(part, &node.body, entering, &mut tables, faults)?;
     right_name_at_end(&node.name.name, &node.body.name, faults);
-    let main = unit_of(alloc, 0, number, node.at, body)?;
+    let main = unit_of(alloc, 0, number, false, node.at, body)?;
     tables.put_unit(0, Box::into_inner(main));
     let name = node.name.name.try_clone(alloc)?;
     let Tables {
@@ -56,6 +56,7 @@ fn typed_within<'a>(
         profiles: _,
         units,
         tasks,
+        objects,
         entries,
         entry_profiles: _,
     } = tables;
@@ -63,6 +64,7 @@ fn typed_within<'a>(
         name,
         units,
         tasks,
+        objects,
         entries,
         regions,
         exceptions,
@@ -71,7 +73,7 @@ fn typed_within<'a>(
 
 /// Checks a program (RM 10.1.1): notes its faults, and answers what is left of it.
 pub fn typed(alloc: Global, unit: &Unit, faults: &mut Least) -> Made<Program>
-    ensures { Leaves plain_program result faults.old faults.new
+    ensures { Shown plain_program result faults.old faults.new
         (program_faults (plain_unit unit.now))
         (typed_program (plain_unit unit.now)) }
 {

@@ -1,5 +1,5 @@
 -- The table of code in memory, from a place on.
-use Rattle.std.proofs.Common.{◌≡◌, ◌↔◌, ℕ, zero, suc, ◌+◌, ◌-◌, ◌<◌, List, [], ◌∷◌, length, take, drop, map, Some, refl, sym, ap, subst, ◌∙◌, arith}
+use Rattle.std.proofs.Common.{◌≡◌, ℕ, ◌+◌, ◌-◌, ◌<◌, List, ◌∷◌, length, take, drop, map, Some, sym, ap, subst, ◌∙◌, arith}
 use Rattle.std.specs.Prelude.{slice_get}
 use Rattle.std.proofs.lemmas.List.{drop-drop, drop-map, take_rest, length-map}
 use Rattle.aud_code.specs.declared.counts.Counts.{Counts as InMemory}
@@ -7,8 +7,7 @@ use Rattle.aud_code.specs.declared.instruction.Instruction.{Instruction}
 use Rattle.aud_code.specs.declared.line.EndLine.{EndLine}
 use Rattle.aud_code.specs.declared.line.Line.{Line}
 use Rattle.aud_code.specs.declared.line.Line.TheVariants as line
-use Rattle.aud_code.specs.Flat.{FlatLine, instructions_from}
-use Rattle.aud_code.specs.Sound.{Counts}
+use Rattle.aud_code.specs.Flat.{instructions_from}
 use Rattle.aud_code.specs.Tabled.{counts, FirstTabled, Tabled}
 use Rattle.aud_code.specs.Verified.{Before}
 use Rattle.aud_code.specs.View.{plain_line}

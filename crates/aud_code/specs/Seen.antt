@@ -1,12 +1,14 @@
 -- The table of frames beside code: before each line, how many frames are open whose variables may be named there, the main procedure's
--- first. It is checked line by line, against what is written where the line leads.
-use Rattle.std.specs.Prelude.{◌≡◌, ◌⊎◌, ◌<◌, ◌≤◌, ℕ, zero, suc, ◌+◌, List, [], ◌∷◌, length, Option, Some, None, slice_get, slice_index_or}
+-- first. It is checked line by line, against what is written where the line leads. While an object is declared there is one more, of its
+-- own components.
+use Rattle.std.specs.Prelude.{◌≡◌, ◌⊎◌, ◌<◌, ◌≤◌, ℕ, zero, suc, ◌+◌, List, [], ◌∷◌, length, Bool, true, false, Option, Some, None, slice_get, slice_index_or}
 use Rattle.aud_typed.specs.declared.program.ArrayAt.{ArrayAt}
 use Rattle.aud_meaning.specs.declared.state.Construct.TheVariants as construct
 use Rattle.aud_code.specs.Places.{Way, Guard}
 use Rattle.aud_code.specs.Instruction.{Instruction, Load, LoadElement, Count, Find, FindElement, Ending, DeclareTasks, Loop, Block, Proc, Operation, CallObject}
 use Rattle.aud_code.specs.Flat.{Last, Does, Continues, Guards, Ends, Leaves, EndLine, FlatLine, instructs, end, Flat, start_at}
 use Rattle.aud_code.specs.Frames.{opener, Found}
+use Rattle.aud_code.specs.Sound.{Counts}
 
 -- what holds of the number that is written
 abbrev pub IsWritten : Option ℕ → (ℕ → Type 0) → Type 0
@@ -25,6 +27,15 @@ NamesOpen (Count v entry) n = v.level < n
 NamesOpen (Find v t) n = v.level < n
 NamesOpen (FindElement a t) n = ArrayOpen a n
 NamesOpen i n = Unit {0}
+
+-- an object's own frame is one more, where its cells have begun
+abbrev pub with_own : Bool → ℕ → ℕ
+with_own true n = suc n
+with_own false n = n
+
+abbrev pub open_with : Option Counts → ℕ → ℕ
+open_with None n = n
+open_with (Some c) n = with_own c.cells n
 
 -- within the frame that a step opens there is one more
 abbrev pub inside : Ending → ℕ → ℕ
@@ -73,14 +84,19 @@ module _ (seen : List ℕ) where
   abbrev pub BodySees : ℕ → ℕ → Type 0
   BodySees n place = IsWritten (slice_get seen place) (λ m. (1 ≤ m) × (m ≤ suc n))
 
--- the body of each task type by its number, of which code itself says nothing
-module _ (code : Flat) (tasks seen : List ℕ) where
-  -- the bodies that are entered, and objects that are named
+-- the barrier of an entry that is called where n are open: it sees some of them, and that of its object
+abbrev pub BarrierSees : List ℕ → ℕ → ℕ → Type 0
+BarrierSees barriers n entry = IsWritten (slice_get barriers entry) (λ m. m ≤ suc n)
+
+-- the body of each task type and how many frames each barrier sees, by their numbers, of which code itself says nothing
+module _ (code : Flat) (tasks barriers seen : List ℕ) where
+  -- the bodies that are entered, the barriers that are asked, and objects that are named
   abbrev pub EndingSees : Ending → ℕ → Type 0
   EndingSees (DeclareTasks ts) n = BodySees seen n (start_at code (slice_index_or tasks ts.task_type 0))
   EndingSees (Proc unit) n = BodySees seen n (start_at code unit)
-  EndingSees (Operation v unit) n = (v.level < n) × BodySees seen n (start_at code unit)
-  EndingSees (CallObject v entry form) n = v.level < n
+  -- an operation's body sees some of them, that of its object, and its own
+  EndingSees (Operation v unit) n = (v.level < n) × BodySees seen (suc n) (start_at code unit)
+  EndingSees (CallObject v entry form) n = (v.level < n) × BarrierSees barriers n entry
   EndingSees e n = Unit {0}
 
   -- behind the end of a construct its frame is left; what is around it stands within the step that opened it
@@ -98,12 +114,25 @@ module _ (code : Flat) (tasks seen : List ℕ) where
   LastSees (Ends construct.Accept next) n l = BehindSees n l next
   LastSees (Leaves loops to) n l = Fewer seen (suc loops) n to
 
+-- barriers name variables of frames that are open
+abbrev pub AllOpen : List Instruction → ℕ → Type 0
+AllOpen [] n = Unit {0}
+AllOpen (i ∷ is) n = NamesOpen i n × AllOpen is n
+
+abbrev pub BarriersSee : List (List Instruction) → List ℕ → Type 0
+BarriersSee [] [] = Unit {0}
+BarriersSee [] (n ∷ ns) = ⊥
+BarriersSee (b ∷ bs) [] = ⊥
+BarriersSee (b ∷ bs) (n ∷ ns) = AllOpen b n × BarriersSee bs ns
+
+-- beside a table of operands
+module _ (code : Flat) (table : List Counts) (tasks barriers seen : List ℕ) where
   -- An instruction names variables of frames that are open, and the line behind it has as many. An ending leads to where the frames are
   -- open that are written there.
   abbrev pub LineSees : Option FlatLine → ℕ → ℕ → Type 0
   LineSees None place n = Unit {0}
-  LineSees (Some (instructs i)) place n = NamesOpen i n × Fewer seen 0 n (suc place)
-  LineSees (Some (end l)) place n = WithinSees seen l.within n × LastSees l.last n l
+  LineSees (Some (instructs i)) place n = NamesOpen i (open_with (slice_get table place) n) × Fewer seen 0 n (suc place)
+  LineSees (Some (end l)) place n = WithinSees seen l.within n × LastSees code tasks barriers seen l.last n l
 
   abbrev pub PlaceSees : ℕ → Type 0
   PlaceSees place = IsWritten (slice_get seen place) (LineSees (slice_get code.lines place) place)
@@ -112,3 +141,4 @@ module _ (code : Flat) (tasks seen : List ℕ) where
   pub record IsSeen : Type 0 where
     pub main : BodySees seen 0 (start_at code 0)
     pub each : (place : ℕ) → place < length code.lines → PlaceSees place
+    pub barriers_see : BarriersSee code.barriers barriers

@@ -2,7 +2,7 @@
 use Rattle.std.specs.Prelude.{◌≡◌, ℕ, zero, suc, List, [], ◌∷◌, length, Bool, true, false, Option, Some, None, slice_get}
 use Rattle.aud_code.specs.Places.{Way, Guard}
 use Rattle.aud_code.specs.Instruction.{Instruction, Push, Load, LoadElement, OnOne, OnTwo, Count, Check, Cell, PushTruth, Truth, Negate, Relate, Compare, Combine, PassIfFalse, PassIfTrue, IsCallable, IsTerminated, Find, FindElement, LoadFound, Pass, PassCopy, AppendText, AppendImage, AppendTruth, AppendNewLine, Name, Milliseconds, Seconds, BeginObject, Component, OpensAccept, OpensDelay, OpensTerminate, Mark, PassUnlessNext, SetTime, Ending, Declare, DeclareObject, Activate, Assign, If, While, Loop, Exit, ReturnValue, CallTask, Operands, Ended, Reached, Marked, Raised, Lost}
-use Rattle.aud_code.specs.Flat.{Last, Does, Continues, Guards, Ends, Leaves, EndLine, FlatLine, end, Flat, instructions_at, end_at}
+use Rattle.aud_code.specs.Flat.{Last, Does, Continues, Guards, Ends, Leaves, EndLine, FlatLine, end, Flat, instructions_at, instructions_from, end_at, end_from}
 use Rattle.aud_code.specs.Frames.{found, Found, At, EachAt, StepFits}
 
 -- how many operands there are, and whether an object is being declared
@@ -147,8 +147,25 @@ pub record Leads (lines : List FlatLine) (l : EndLine) : Type 0 where
   pub last : LastLeads lines l.last
   pub activates : ActivatesBefore lines l.last l.ways
 
+-- a barrier finds its operands, and leaves a truth value, as a condition does
+abbrev pub Decides : List Instruction → Type 0
+Decides is = AreFine (LastFine (Does If)) is 0 no_counts
+
+abbrev pub AllDecide : List (List Instruction) → Type 0
+AllDecide [] = Unit {0}
+AllDecide (b ∷ bs) = Decides b × AllDecide bs
+
+-- lines that are a barrier: their ending takes that truth value
+abbrev pub TakesTruth : Last → Type 0
+TakesTruth (Does If) = Unit {0}
+TakesTruth last = ⊥
+
+pub record IsBarrier (lines : List FlatLine) : Type 0 where
+  pub fine : AreFine (LastFine (end_from lines 0).last) (instructions_from lines) 0 no_counts
+  pub taken : TakesTruth (end_from lines 0).last
+
 -- Sound code: each step finds its operands, leads to steps, an activation to a statement, and leaves the frames open that are to be
--- open there.
+-- open there; and each barrier decides.
 pub record IsSound (code : Flat) : Type 0 where
   pub operands : (n : ℕ) → IsStart code.lines n → AreFine (LastFine (end_at code n).last) (instructions_at code n) 0 no_counts
   pub leads : (n : ℕ) (l : EndLine) → slice_get code.lines n ≡ Some (end l) → Leads code.lines l
@@ -156,3 +173,4 @@ pub record IsSound (code : Flat) : Type 0 where
   pub frames : (n : ℕ) → IsStart code.lines n → StepFits code.lines n
   -- bodies begin with no frame of a construct
   pub framed : EachAt code.lines code.starts None × At code.lines code.spare None
+  pub barriers : AllDecide code.barriers

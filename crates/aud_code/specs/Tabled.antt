@@ -1,13 +1,15 @@
 -- The table of operands beside code: how many of each sort stand before each line. It is checked line by line, against what is
 -- written where the line leads.
-use Rattle.std.specs.Prelude.{◌≡◌, ◌≤◌, ℕ, zero, suc, ◌+◌, ◌-◌, List, [], ◌∷◌, length, map, Some, true, false, slice_get}
+use Rattle.std.specs.Prelude.{◌≡◌, ◌≤◌, ℕ, zero, suc, ◌+◌, ◌-◌, List, [], ◌∷◌, length, map, Some, true, ◌||◌, slice_get}
 use Rattle.aud_code.specs.Instruction.{Instruction, Push, Load, LoadElement, OnOne, OnTwo, Count, Check, Cell, PushTruth, Truth, Negate, Relate, Compare, Combine, PassIfFalse, PassIfTrue, IsCallable, IsTerminated, Find, FindElement, LoadFound, Pass, PassCopy, AppendText, AppendImage, AppendTruth, AppendNewLine, Name, Milliseconds, Seconds, BeginObject, Component, OpensAccept, OpensDelay, OpensTerminate, Mark, PassUnlessNext, SetTime}
 use Rattle.aud_code.specs.Flat.{FlatLine, instructs, end, instructions_from}
+use Rattle.aud_code.specs.Frames.{found, Found}
 use Rattle.aud_code.specs.Seen.{IsSeen}
-use Rattle.aud_code.specs.Sound.{Counts, no_counts, AndThen, InstructionFine, LastFine, IsSound}
-use Rattle.aud_code.specs.View.{plain_code}
+use Rattle.aud_code.specs.Sound.{Counts, no_counts, AndThen, InstructionFine, LastFine, TakesTruth, IsSound}
+use Rattle.aud_code.specs.View.{frames_in, plain_code, plain_line}
 use Rattle.aud_code.specs.declared.counts.Counts.{Counts as InMemory}
 use Rattle.aud_code.specs.declared.counts.Effect.{Effect}
+use Rattle.aud_code.specs.declared.line.Barrier.{Barrier}
 use Rattle.aud_code.specs.declared.line.Code.{Code}
 
 -- The check.
@@ -44,12 +46,22 @@ FirstTabled (l ∷ ls) (c ∷ cs) = LineTabled l c ls cs
 -- In memory.
 
 abbrev pub counts : InMemory → Counts
-counts c = record { integers = c.integers; booleans = c.booleans; targets = c.targets; names = c.names; cells = false }
+counts c = record { integers = c.integers; booleans = c.booleans; targets = c.targets; names = c.names; cells = c.cells }
 
--- what is verified: both tables fit the code, and the code is sound
+-- a barrier's table fits it, and its ending takes a truth value
+pub record IsDecided (b : Barrier) : Type 0 where
+  pub tabled : IsTabled (map plain_line b.lines.items) (map counts b.operands.items)
+  pub taken : Found (found (map plain_line b.lines.items) 0) (λ l. TakesTruth l.last)
+
+abbrev pub AllDecided : List Barrier → Type 0
+AllDecided [] = Unit {0}
+AllDecided (b ∷ bs) = IsDecided b × AllDecided bs
+
+-- what is verified: both tables fit the code, each barrier is decided, and the code is sound
 pub record IsVerified (code : Code) : Type 0 where
   pub tabled : IsTabled (plain_code code).lines (map counts code.operands.items)
-  pub seen : IsSeen (plain_code code) code.tasks.items code.seen.items
+  pub seen : IsSeen (plain_code code) (map counts code.operands.items) code.tasks.items (frames_in code.barriers.items) code.seen.items
+  pub decided : AllDecided code.barriers.items
   pub sound : IsSound (plain_code code)
 
 -- some are taken and others left
@@ -59,6 +71,7 @@ changed e c = record c {
   booleans = c.booleans - e.takes.booleans + e.leaves.booleans;
   targets = c.targets - e.takes.targets + e.leaves.targets;
   names = c.names - e.takes.names + e.leaves.names;
+  cells = e.leaves.cells || c.cells;
 }
 
 -- where an instruction leads that passes others

@@ -1,10 +1,15 @@
 -- What verification finds out, line by line.
-use Rattle.std.specs.Prelude.{◌≡◌, ◌↔◌, ◌≤◌, ◌<◌, ℕ, ◌+◌, List, length, Option, Some, None, slice_get}
+use Rattle.std.specs.Prelude.{◌≡◌, ◌↔◌, ◌≤◌, ◌<◌, ℕ, ◌+◌, List, length, Bool, true, false, Option, Some, None, slice_get}
 use Rattle.aud_code.specs.Instruction.{Instruction, PassIfFalse, PassIfTrue}
 use Rattle.aud_code.specs.Flat.{FlatLine, instructs, end, instructions_from}
 use Rattle.aud_code.specs.Frames.{At, EachAt, StepFits}
 use Rattle.aud_code.specs.Sound.{Counts, IsStart, EachStart, Leads}
 use Rattle.aud_code.specs.declared.counts.Counts.{Counts as InMemory}
+
+-- the cells of an object have begun, where that is needed
+abbrev pub IsMet : Bool → Bool → Type 0
+IsMet true begun = begun ≡ true
+IsMet false begun = Unit {0}
 
 -- no more is needed than there is
 pub record IsEnough (need : InMemory) (c : Counts) : Type 0 where
@@ -12,6 +17,7 @@ pub record IsEnough (need : InMemory) (c : Counts) : Type 0 where
   pub booleans : need.booleans ≤ c.booleans
   pub targets : need.targets ≤ c.targets
   pub names : need.names ≤ c.names
+  pub cells : IsMet need.cells c.cells
 
 -- what comes then is fine exactly with what is needed
 abbrev pub Needs : (Counts → Type 0) → InMemory → Type 0

@@ -109,9 +109,12 @@ fn body_of(among: &Among, alternative: usize) -> Option<usize>
             }
         }
         Among::DeclareTasks(_)
+        | Among::DeclareObject(_)
         | Among::Activate
         | Among::Activated
         | Among::Call { .. }
+        | Among::CallObject { .. }
+        | Among::Operation { .. }
         | Among::Delay => None,
     }
 }
@@ -121,11 +124,15 @@ fn beside(among: &Among, part: usize) -> Option<usize>
     ensures { result ≡ slice_get (beside among.now) part }
 {
     match among {
-        Among::Call { otherwise, .. } => if part == 0 { Some(*otherwise) } else { None },
+        Among::Call { otherwise, .. } | Among::CallObject { otherwise, .. } => {
+            if part == 0 { Some(*otherwise) } else { None }
+        }
         Among::Select { offers, .. } => behind_offered(offers, part),
         Among::DeclareTasks(_)
+        | Among::DeclareObject(_)
         | Among::Activate
         | Among::Activated
+        | Among::Operation { .. }
         | Among::Delay
         | Among::Accept { .. } => None,
     }
@@ -167,6 +174,8 @@ fn inside(ending: Ending) -> Option<usize>
         | Ending::Raise(_)
         | Ending::RaiseAgain
         | Ending::Return(_)
-        | Ending::Call(_) => None,
+        | Ending::ReturnValue(_)
+        | Ending::Call(_)
+        | Ending::OwnCall => None,
     }
 }

@@ -4,19 +4,20 @@ ghost use Rattle.std.specs.Prelude.{◌≡◌, ◌↔◌, ◌+◌, ◌-◌, ◌�
 ghost use Rattle.aud_code.specs.Flat.{FlatLine};
 ghost use Rattle.aud_code.specs.Sound.{Counts as Standing, no_counts, EndingFine, InstructionFine, LastFine};
 ghost use Rattle.aud_code.specs.View.{plain_among, plain_instruction, plain_ending, plain_last};
-ghost use Rattle.aud_code.specs.Verified.{IsEnough, Needs};
+ghost use Rattle.aud_code.specs.Verified.{IsEnough, IsMet, Needs};
 ghost use Rattle.aud_code.specs.Tabled.{behind, changed, counts, GoesOver, LeadsTo};
 
 use crate::instruction::Instruction;
 use crate::line::{Among, Ending, Last};
 
-/// How many Integers, truth values, targets and tasks that are named.
+/// How many Integers, truth values, targets and tasks that are named; and whether the cells of an object have begun.
 #[derive(Clone, Copy, PartialEq, Eq)]
 pub struct Counts {
     pub integers: usize,
     pub booleans: usize,
     pub targets: usize,
     pub names: usize,
+    pub cells: bool,
 }
 
 /// No operands.
@@ -25,6 +26,7 @@ pub const NOTHING: Counts = Counts {
     booleans: 0,
     targets: 0,
     names: 0,
+    cells: false,
 };
 
 const INTEGER: Counts = Counts {
@@ -57,6 +59,11 @@ const NAME: Counts = Counts {
     ..NOTHING
 };
 
+const CELLS: Counts = Counts {
+    cells: true,
+    ..NOTHING
+};
+
 const TARGET_AND_INTEGER: Counts = Counts {
     integers: 1,
     ..TARGET
@@ -74,7 +81,11 @@ impl Counts {
     pub(crate) fn is_nothing(self) -> bool
         ensures { IsTrue result ↔ (counts self ≡ no_counts) }
     {
-        self.integers == 0 && self.booleans == 0 && self.targets == 0 && self.names == 0
+        self.integers == 0
+            && self.booleans == 0
+            && self.targets == 0
+            && self.names == 0
+            && !self.cells
     }
 
     /// Whether the others are as many.
@@ -85,6 +96,7 @@ impl Counts {
             && self.booleans == other.booleans
             && self.targets == other.targets
             && self.names == other.names
+            && self.cells == other.cells
     }
 
     /// Whether these are found among all that there are.
@@ -95,6 +107,7 @@ impl Counts {
             && self.booleans <= all.booleans
             && self.targets <= all.targets
             && self.names <= all.names
+            && is_met(self.cells, all.cells)
     }
 }
 
@@ -117,7 +130,15 @@ impl Effect {
             next.booleans,
         ) && is_changed(before.targets, takes.targets, leaves.targets, next.targets)
             && is_changed(before.names, takes.names, leaves.names, next.names)
+            && next.cells == (leaves.cells || before.cells)
     }
+}
+
+// Whether the cells of an object have begun, where that is needed.
+fn is_met(needed: bool, begun: bool) -> bool
+    ensures { IsTrue result ↔ IsMet needed begun }
+{
+    if needed { begun } else { true }
 }
 
 // Operands of one sort.
@@ -170,10 +191,12 @@ pub fn effect_of(instruction: &Instruction) -> Effect
         | Instruction::Mark
         | Instruction::PassUnlessNext(_, _)
         | Instruction::SetTime(_) => makes(NOTHING, NOTHING),
-        Instruction::AppendImage | Instruction::Pass | Instruction::Seconds => {
-            makes(INTEGER, NOTHING)
-        }
+        Instruction::AppendImage
+        | Instruction::Pass
+        | Instruction::Seconds
+        | Instruction::Component => makes(INTEGER, NOTHING),
         Instruction::Name => makes(INTEGER, NAME),
+        Instruction::BeginObject => makes(NOTHING, CELLS),
     }
 }
 
@@ -201,9 +224,12 @@ fn need_of_among(among: &Among) -> Counts
 {
     match among {
         Among::Call { .. } => NAME,
+        Among::DeclareObject(_) => CELLS,
         Among::DeclareTasks(_)
         | Among::Activate
         | Among::Activated
+        | Among::CallObject { .. }
+        | Among::Operation { .. }
         | Among::Delay
         | Among::Accept { .. }
         | Among::Select { .. } => NOTHING,
@@ -215,7 +241,7 @@ fn need_of_ending(ending: Ending) -> Counts
     ensures { Needs (EndingFine (plain_ending ending)) result }
 {
     match ending {
-        Ending::Declare { .. } => INTEGER,
+        Ending::Declare { .. } | Ending::ReturnValue(_) => INTEGER,
         Ending::Assign => TARGET_AND_INTEGER,
         Ending::If(_) | Ending::While(_) | Ending::Exit(_) => TRUTH,
         Ending::Loop { .. } => INTEGERS,
@@ -226,6 +252,7 @@ fn need_of_ending(ending: Ending) -> Counts
         | Ending::RaiseAgain
         | Ending::Block { .. }
         | Ending::Return(_)
-        | Ending::Call(_) => NOTHING,
+        | Ending::Call(_)
+        | Ending::OwnCall => NOTHING,
     }
 }

@@ -91,7 +91,7 @@ fn ending_fits(lines: &[Line], place: usize, within: Option<usize>, ending: Endi
         Ending::Loop { inside, .. } | Ending::Block { inside, .. } => {
             is_within(lines, inside, Some(place))
         }
-        Ending::Exit(way) | Ending::Return(way) => {
+        Ending::Exit(way) | Ending::Return(way) | Ending::ReturnValue(way) => {
             leaves_loops(lines, within, way.loops, way.to)
         }
         Ending::DeclareArray(_, _)
@@ -100,7 +100,8 @@ fn ending_fits(lines: &[Line], place: usize, within: Option<usize>, ending: Endi
         | Ending::Put
         | Ending::Raise(_)
         | Ending::RaiseAgain
-        | Ending::Call(_) => true,
+        | Ending::Call(_)
+        | Ending::OwnCall => true,
     }
 }
 
@@ -110,12 +111,19 @@ fn among_fits(lines: &[Line], place: usize, within: Option<usize>, among: &Among
         × BodiesAt (map plain_line lines.now) within place (bodies_in among.now)) }
 {
     match among {
-        Among::Call { otherwise, .. } => is_within(lines, *otherwise, within),
+        Among::Call { otherwise, .. } | Among::CallObject { otherwise, .. } => {
+            is_within(lines, *otherwise, within)
+        }
         Among::Accept { body, .. } => body_fits(lines, place, within, *body),
         Among::Select { own, offers, .. } => {
             body_fits(lines, place, within, *own) && offers_fit(lines, place, within, offers)
         }
-        Among::DeclareTasks(_) | Among::Activate | Among::Activated | Among::Delay => true,
+        Among::DeclareTasks(_)
+        | Among::DeclareObject(_)
+        | Among::Activate
+        | Among::Activated
+        | Among::Operation { .. }
+        | Among::Delay => true,
     }
 }
 

@@ -6,8 +6,8 @@ use aud_text::text::Text;
 use aud_typed::program::{ArrayAt, Binary, Duration, Logical, Relation, Subtype, Unary, Variable};
 
 /// An instruction. They work on the operands of a step: Integers, truth values and targets, of which the newest is taken
-/// first, the arguments of a call, the tasks that are named, a text that grows at its end, the time that is waited for, and
-/// the alternatives of a selective accept that are open.
+/// first, the arguments of a call, the tasks that are named, a text that grows at its end, the time that is waited for, the
+/// cells of an object that is declared, and the alternatives of a selective accept that are open.
 #[derive(Drop)]
 pub enum Instruction {
     /// One more Integer.
@@ -21,7 +21,8 @@ pub enum Instruction {
     OnOne(Unary),
     /// An operator in place of the two newest Integers; the newest is its right operand.
     OnTwo(Binary),
-    /// How many calls are queued on this entry of the task whose number the variable's cell holds, as one more Integer (RM 9.9(5)).
+    /// How many calls are queued on this entry of the task or object whose number the variable's cell holds, as one more Integer
+    /// (RM 9.9(5)).
     Count(Variable, usize),
     /// The newest Integer is in the subtype's range, or Constraint_Error is raised (RM 4.6(51)).
     Check(Subtype),
@@ -71,6 +72,10 @@ pub enum Instruction {
     Milliseconds(Duration),
     /// Takes the newest Integer: the time that is waited for, in seconds, and none where it is negative (RM 9.6).
     Seconds,
+    /// The cells of an object that is declared begin; the first one holds its number (RM 9.4).
+    BeginObject,
+    /// Takes the newest Integer, as the next cell of the object.
+    Component,
     /// Takes the newest truth value, that of a guard; where it is true, this accept is open (RM 9.7.1(14)).
     OpensAccept(OpenAccept),
     /// The same of the delay of the alternative of this number, whose time is not known yet.

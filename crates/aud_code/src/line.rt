@@ -4,7 +4,7 @@ use crate::counts::Counts;
 use crate::instruction::Instruction;
 use aud_meaning::state::Construct;
 use aud_text::place::Pos;
-use aud_typed::program::{Exception, Subtype, Tasks};
+use aud_typed::program::{Exception, Subtype, Tasks, Variable};
 
 /// A way out of loops or a body: the place, and how many loops' frames are left at once.
 #[derive(Clone, Copy, PartialEq, Eq)]
@@ -53,8 +53,12 @@ pub enum Ending {
     Block { region: usize, inside: usize },
     /// The step leads out of a procedure, to its end (RM 6.5).
     Return(Way),
+    /// The same out of a function, whose value is the newest Integer.
+    ReturnValue(Way),
     /// The frame of a procedure, the body of this number; the step leads to its beginning (RM 6.4).
     Call(usize),
+    /// A call of an entry of the object in whose action the step is done, which raises Program_Error (RM 9.5.1(8 to 16)).
+    OwnCall,
 }
 
 /// The place of the statements that handle these exceptions, or all others where the flag holds (RM 11.2).
@@ -86,6 +90,8 @@ pub struct Offer {
 pub enum Among {
     /// The next variable of the innermost frame is these tasks, which are created (RM 9.1).
     DeclareTasks(Tasks),
+    /// The next variable of the innermost frame is an object of this declaration (RM 9.4).
+    DeclareObject(usize),
     /// The tasks are activated that the declarative part has created (RM 9.2(3)).
     Activate,
     /// The activation of the task ends (RM 9.2(5)).
@@ -96,6 +102,19 @@ pub enum Among {
         entry: usize,
         kind: CallKind,
         otherwise: usize,
+    },
+    /// The same of an entry of the object whose number the variable's cell holds.
+    CallObject {
+        object: Variable,
+        entry: usize,
+        kind: CallKind,
+        otherwise: usize,
+    },
+    /// A call of a procedure or function, the body of this number, of the object whose number the variable's cell holds; the step
+    /// leads to its beginning (RM 9.5.1(3)).
+    Operation {
+        object: Variable,
+        unit: usize,
     },
     /// The task is blocked for the time that is waited for (RM 9.6).
     Delay,
@@ -156,8 +175,19 @@ pub enum Line {
     End(EndLine),
 }
 
+/// The barrier of an entry (RM 9.5.2(7)): its instructions, an ending behind them that takes a truth value, how many operands
+/// stand before each of these lines, and how many frames are open whose variables may be named there, that of its object the
+/// innermost.
+#[derive(Drop)]
+pub struct Barrier {
+    pub lines: Vec<Line>,
+    pub operands: Vec<Counts>,
+    pub frames: usize,
+}
+
 /// A program's code: its lines, how many operands stand before each of them and how many frames are open there, the place where
-/// each body begins, by the bodies' numbers, the place for a number that no body has, and the body of each type of tasks.
+/// each body begins, by the bodies' numbers, the place for a number that no body has, the body of each type of tasks, and the
+/// barriers, by the entries' numbers.
 #[derive(Drop)]
 pub struct Code {
     pub lines: Vec<Line>,
@@ -166,4 +196,5 @@ pub struct Code {
     pub starts: Vec<usize>,
     pub spare: usize,
     pub tasks: Vec<usize>,
+    pub barriers: Vec<Barrier>,
 }

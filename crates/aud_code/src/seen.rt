@@ -2,29 +2,63 @@
 // leads to.
 
 ghost use Rattle.std.specs.Prelude.{◌≡◌, ◌↔◌, ◌⊎◌, ◌+◌, ◌<◌, ◌≤◌, ℕ, suc, map, length, Some, slice_get, slice_index_or, IsTrue};
-ghost use Rattle.aud_code.specs.Flat.{start_at};
-ghost use Rattle.aud_code.specs.Seen.{inside, BehindSees, BodiesSee, BodySees, EachSame, EndingSees, Fewer};
+ghost use Rattle.aud_code.specs.Tabled.{counts};
+ghost use Rattle.aud_code.specs.Flat.{instructions_from, start_at};
+ghost use Rattle.aud_code.specs.Seen.{inside, AllOpen, BarrierSees, BarriersSee, BehindSees, BodiesSee, BodySees, EachSame, EndingSees, Fewer};
 ghost use Rattle.aud_code.specs.Seen.{GuardsSee, IsSeen, IsWritten, LastSees, LineSees, NamesOpen};
 ghost use Rattle.aud_code.specs.Seen.{OutSees, PlaceSees, WaySees, WithinSees};
-ghost use Rattle.aud_code.specs.View.{behind_offers, beside, bodies_in, bodies_offered, inside_of, plain_among, plain_code, plain_end, plain_ending, plain_guard};
+ghost use Rattle.aud_code.specs.Seen.{open_with, with_own};
+ghost use Rattle.aud_code.specs.View.{behind_offers, beside, bodies_in, bodies_offered, frames_in, inside_of, plain_among, plain_barrier, plain_code, plain_end, plain_ending, plain_guard};
 ghost use Rattle.aud_code.specs.View.{plain_instruction, plain_last, plain_line, way_of};
 
 use crate::frames::opener;
 use crate::instruction::Instruction;
-use crate::line::{Among, Code, EndLine, Ending, Guard, Last, Line, Offer};
+use crate::line::{Among, Barrier, Code, EndLine, Ending, Guard, Last, Line, Offer};
 use aud_meaning::state::Construct;
 
 /// Whether each line names variables of frames that are open alone, by the table of frames, and leads to where those are open that
 /// are written there.
 pub(crate) fn is_seen(code: &Code) -> bool
-    ensures { IsTrue result ↔ IsSeen (plain_code code.now) code.now.tasks.items code.now.seen.items }
+    ensures { IsTrue result ↔ IsSeen (plain_code code.now) (map counts code.now.operands.items)
+        code.now.tasks.items (frames_in code.now.barriers.items) code.now.seen.items }
 {
-    body_sees(&code.seen, 0, start(code, 0)) && places_see(code)
+    body_sees(&code.seen, 0, start(code, 0)) && places_see(code) && barriers_see(&code.barriers)
+}
+
+// Whether each barrier names variables of frames that are open for it alone.
+fn barriers_see(barriers: &[Barrier]) -> bool
+    ensures { IsTrue result ↔
+        BarriersSee (map plain_barrier barriers.now) (frames_in barriers.now) }
+{
+    for barrier in barriers {
+        if !all_open(&barrier.lines, barrier.frames) {
+            return false;
+        }
+    }
+    true
+}
+
+// The instructions of a barrier, for which so many frames are open.
+fn all_open(lines: &[Line], frames: usize) -> bool
+    ensures { IsTrue result ↔ AllOpen (instructions_from (map plain_line lines.now)) frames }
+{
+    for line in lines {
+        match line {
+            Line::Instruction(instruction) => {
+                if !names_open(instruction, frames, false) {
+                    return false;
+                }
+            }
+            Line::End(_) => return true,
+        }
+    }
+    true
 }
 
 fn places_see(code: &Code) -> bool
     ensures { IsTrue result ↔ ((place : ℕ) → place < length code.now.lines.items →
-        PlaceSees (plain_code code.now) code.now.tasks.items code.now.seen.items place) }
+        PlaceSees (plain_code code.now) (map counts code.now.operands.items)
+        code.now.tasks.items (frames_in code.now.barriers.items) code.now.seen.items place) }
 {
     for place in 0..code.lines.len() {
         if !place_sees(code, place) {
@@ -37,7 +71,8 @@ fn places_see(code: &Code) -> bool
 fn place_sees(code: &Code, place: usize) -> bool
     requires { place < length code.now.lines.items }
     ensures { IsTrue result ↔
-        PlaceSees (plain_code code.now) code.now.tasks.items code.now.seen.items place }
+        PlaceSees (plain_code code.now) (map counts code.now.operands.items)
+        code.now.tasks.items (frames_in code.now.barriers.items) code.now.seen.items place }
 {
     match code.seen.get(place) {
         Some(frames) => line_sees(code, &code.lines[place], place, *frames),
@@ -48,35 +83,57 @@ fn place_sees(code: &Code, place: usize) -> bool
 // A line, before which so many frames are open.
 fn line_sees(code: &Code, line: &Line, place: usize, frames: usize) -> bool
     requires { place < length code.now.lines.items }
-    ensures { IsTrue result ↔ LineSees (plain_code code.now) code.now.tasks.items code.now.seen.items
-        (Some (plain_line line.now)) place frames }
+    ensures { IsTrue result ↔ LineSees (plain_code code.now) (map counts code.now.operands.items)
+        code.now.tasks.items (frames_in code.now.barriers.items) code.now.seen.items (Some (plain_line line.now)) place frames }
 {
     match line {
         Line::Instruction(instruction) => {
-            names_open(instruction, frames) && is_fewer(&code.seen, 0, frames, place + 1)
+            names_open(instruction, frames, has_begun(code, place))
+                && is_fewer(&code.seen, 0, frames, place + 1)
         }
         Line::End(end) => within_sees(&code.seen, end.within, frames)
             && last_sees(code, end, frames),
     }
 }
 
-// Whether each variable that an instruction names is of a frame that is open.
-fn names_open(instruction: &Instruction, frames: usize) -> bool
-    ensures { IsTrue result ↔ NamesOpen (plain_instruction instruction.now) frames }
+// Whether the cells of an object have begun before a line.
+fn has_begun(code: &Code, place: usize) -> bool
+    ensures { (n : ℕ) →
+        with_own result n ≡ open_with (slice_get (map counts code.now.operands.items) place) n }
+{
+    match code.operands.get(place) {
+        Some(before) => before.cells,
+        None => false,
+    }
+}
+
+// Whether each variable that an instruction names is of a frame that is open, or of an object whose cells have begun.
+fn names_open(instruction: &Instruction, frames: usize, begun: bool) -> bool
+    ensures { IsTrue result ↔ NamesOpen (plain_instruction instruction.now) (with_own begun frames) }
 {
     match instruction {
         Instruction::Load(variable)
         | Instruction::Count(variable, _)
-        | Instruction::Find(variable, _) => variable.level < frames,
+        | Instruction::Find(variable, _) => is_open(variable.level, frames, begun),
         Instruction::LoadElement(array) | Instruction::FindElement(array, _) => {
-            array.length == 0 || array.first.level < frames
+            array.length == 0 || is_open(array.first.level, frames, begun)
         }
         _ => true,
     }
 }
 
+fn is_open(frame: usize, frames: usize, begun: bool) -> bool
+    ensures { IsTrue result ↔ frame < with_own begun frames }
+{
+    if begun {
+        frame <= frames
+    } else {
+        frame < frames
+    }
+}
+
 fn last_sees(code: &Code, end: &EndLine, frames: usize) -> bool
-    ensures { IsTrue result ↔ LastSees (plain_code code.now) code.now.tasks.items code.now.seen.items
+    ensures { IsTrue result ↔ LastSees (plain_code code.now) code.now.tasks.items (frames_in code.now.barriers.items) code.now.seen.items
         (plain_last end.now.last) frames (plain_end end.now) }
 {
     let seen = &code.seen;
@@ -107,7 +164,7 @@ fn last_sees(code: &Code, end: &EndLine, frames: usize) -> bool
 
 // Where a statement's step leads besides, and the body that it enters.
 fn ending_sees(code: &Code, ending: Ending, frames: usize) -> bool
-    ensures { IsTrue result ↔ (EndingSees (plain_code code.now) code.now.tasks.items code.now.seen.items
+    ensures { IsTrue result ↔ (EndingSees (plain_code code.now) code.now.tasks.items (frames_in code.now.barriers.items) code.now.seen.items
         (plain_ending ending) frames
         × (EachSame code.now.seen.items (inside (plain_ending ending) frames) (inside_of ending)
         × WaySees code.now.seen.items frames (way_of ending))) }
@@ -120,20 +177,23 @@ fn ending_sees(code: &Code, ending: Ending, frames: usize) -> bool
         Ending::Loop { inside, .. } | Ending::Block { inside, .. } => {
             is_one_more(seen, frames, inside)
         }
-        Ending::Exit(way) | Ending::Return(way) => is_fewer(seen, way.loops, frames, way.to),
+        Ending::Exit(way) | Ending::Return(way) | Ending::ReturnValue(way) => {
+            is_fewer(seen, way.loops, frames, way.to)
+        }
         Ending::Call(unit) => body_sees(seen, frames, start(code, unit)),
         Ending::DeclareArray(_, _)
         | Ending::Null
         | Ending::Assign
         | Ending::Put
         | Ending::Raise(_)
-        | Ending::RaiseAgain => true,
+        | Ending::RaiseAgain
+        | Ending::OwnCall => true,
     }
 }
 
 // Where a step leads besides that concerns others, the bodies that it enters, and what its accepts do.
 fn among_sees(code: &Code, among: &Among, frames: usize) -> bool
-    ensures { IsTrue result ↔ (EndingSees (plain_code code.now) code.now.tasks.items code.now.seen.items
+    ensures { IsTrue result ↔ (EndingSees (plain_code code.now) code.now.tasks.items (frames_in code.now.barriers.items) code.now.seen.items
         (plain_among among.now) frames
         × (EachSame code.now.seen.items (inside (plain_among among.now) frames) (beside among.now)
         × BodiesSee code.now.seen.items frames (bodies_in among.now))) }
@@ -144,11 +204,34 @@ fn among_sees(code: &Code, among: &Among, frames: usize) -> bool
             body_sees(seen, frames, start(code, body_of(code, tasks.task_type)))
         }
         Among::Call { otherwise, .. } => is_fewer(seen, 0, frames, *otherwise),
+        Among::CallObject {
+            object,
+            entry,
+            otherwise,
+            ..
+        } => {
+            object.level < frames
+                && barrier_sees(&code.barriers, frames, *entry)
+                && is_fewer(seen, 0, frames, *otherwise)
+        }
+        Among::Operation { object, unit } => {
+            object.level < frames && operation_sees(seen, frames, start(code, *unit))
+        }
         Among::Accept { body, .. } => doing_sees(seen, frames, *body),
         Among::Select { own, offers, .. } => {
             doing_sees(seen, frames, *own) && offers_see(seen, frames, offers)
         }
-        Among::Activate | Among::Activated | Among::Delay => true,
+        Among::DeclareObject(_) | Among::Activate | Among::Activated | Among::Delay => true,
+    }
+}
+
+// The barrier of an entry that is called where so many frames are open: it sees some of them, and that of its object.
+fn barrier_sees(barriers: &[Barrier], frames: usize, entry: usize) -> bool
+    ensures { IsTrue result ↔ BarrierSees (frames_in barriers.now) frames entry }
+{
+    match barriers.get(entry) {
+        Some(barrier) => barrier.frames == 0 || barrier.frames - 1 <= frames,
+        None => false,
     }
 }
 
@@ -183,7 +266,7 @@ fn doing_sees(seen: &[usize], frames: usize, body: usize) -> bool
 // Behind the end of a construct, whose frame is left.
 fn behind_sees(code: &Code, end: &EndLine, frames: usize, next: usize) -> bool
     ensures { IsTrue result ↔
-        BehindSees (plain_code code.now) code.now.tasks.items code.now.seen.items
+        BehindSees (plain_code code.now) code.now.tasks.items (frames_in code.now.barriers.items) code.now.seen.items
         frames (plain_end end.now) next }
 {
     match opener(&code.lines, end.within) {
@@ -261,6 +344,16 @@ fn body_sees(seen: &[usize], frames: usize, place: usize) -> bool
 {
     match seen.get(place) {
         Some(there) => 1 <= *there && *there - 1 <= frames,
+        None => false,
+    }
+}
+
+// The same of an operation's body, which sees the frame of its object besides.
+fn operation_sees(seen: &[usize], frames: usize, place: usize) -> bool
+    ensures { IsTrue result ↔ BodySees seen.now (suc frames) place }
+{
+    match seen.get(place) {
+        Some(there) => 1 <= *there && there.saturating_sub(2) <= frames,
         None => false,
     }
 }

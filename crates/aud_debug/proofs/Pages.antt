@@ -24,3 +24,14 @@ comes_more page mid start now left was all adds is comes = record {
 
 pub comes_all : (page start : Page) (all : List (List ℕ)) → Comes page start [] all → (page.bytes.items ≡ start.bytes.items ++ ended all) × (page.count ≡ start.count + length all)
 comes_all page start all comes = (sym (append-nil page.bytes.items) ∙ comes.bytes, omega (arith, comes.count))
+
+pub both_added : (start mid page : Page) (first second : List (List ℕ)) → (mid.bytes.items ≡ start.bytes.items ++ ended first) × (mid.count ≡ start.count + length first) →
+    (page.bytes.items ≡ mid.bytes.items ++ ended second) × (page.count ≡ mid.count + length second) →
+    (page.bytes.items ≡ start.bytes.items ++ ended (first ++ second)) × (page.count ≡ start.count + length (first ++ second))
+both_added start mid page first second one two = (
+  two.0
+      ∙ ap (λ l. l ++ ended second) one.0
+      ∙ append_assoc start.bytes.items (ended first) (ended second)
+      ∙ ap (λ l. start.bytes.items ++ l) (sym (ended-append first second)),
+  omega (arith, one.1, two.1, length-append first second),
+)

@@ -1,3 +1,4 @@
+pub mod OwnCells
 pub mod Executed
 pub mod Instructions
 pub mod Closing

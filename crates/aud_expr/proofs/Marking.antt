@@ -1,13 +1,14 @@
 -- Only an evaluation that ends at the mark does so.
-use Rattle.std.proofs.Common.{◌≡◌, ℕ, zero, suc, List, [], ◌∷◌, Bool, true, false, Result, Ok, Err, if◌then◌else◌, subst}
+use Rattle.std.proofs.Common.{◌≡◌, ℕ, zero, suc, List, [], ◌∷◌, drop, Bool, true, false, Result, Ok, Err, if◌then◌else◌, subst}
 use Rattle.aud_text.specs.declared.raise.Raise.{Raise}
 use Rattle.aud_meaning.specs.Control.{Scene}
-use Rattle.aud_code.specs.Instruction.{Instruction, Push, Load, LoadElement, OnOne, OnTwo, Count, Check, Cell, PushTruth, Truth, Negate, Relate, Compare, Combine, PassIfFalse, PassIfTrue, IsCallable, IsTerminated, Find, FindElement, LoadFound, Pass, PassCopy, AppendText, AppendImage, AppendTruth, AppendNewLine, Name, Milliseconds, Seconds, BeginObject, Component, OpensAccept, OpensDelay, OpensTerminate, Mark, PassUnlessNext, SetTime, Operands, Ended, Reached, Marked, Raised, Lost}
+use Rattle.aud_code.specs.Instruction.{Instruction, Push, Load, LoadElement, OnOne, OnTwo, Count, Check, Cell, PushTruth, Truth, Negate, Relate, Compare, Combine, PassIfFalse, PassIfTrue, IsCallable, IsTerminated, Find, FindElement, LoadFound, Pass, PassCopy, AppendText, AppendImage, AppendTruth, AppendNewLine, Name, Milliseconds, Seconds, BeginObject, Component, OpensAccept, OpensDelay, OpensTerminate, Mark, PassUnlessNext, SetTime, If, Operands, Ended, Reached, Marked, Raised, Lost}
 use Rattle.aud_code.specs.Eval.{on_result, on_one, on_two, Then, act, eval, is_next}
-use Rattle.aud_code.specs.Flat.{Flat, instructions_at}
+use Rattle.aud_code.specs.Flat.{Last, Does, FlatLine, instructions_from}
 use Rattle.aud_expr.specs.declared.evaluate.Outcome.{Outcome}
 use Rattle.aud_expr.specs.declared.evaluate.Outcome.TheVariants.{Reaches, Fails}
-use Rattle.aud_expr.specs.Flow.{ended, evaluated_by, IsMarked}
+use Rattle.aud_code.specs.Sound.{Counts, counts_of, Takes, LastFine, TakesTruth}
+use Rattle.aud_expr.specs.Flow.{ended, evaluated_in, step_end, FitsIn, HasTruth, IsMarked}
 
 IsElsewhere : Ended → Type 0
 IsElsewhere (Reached o) = Unit {0}
@@ -90,10 +91,19 @@ module _ (s : Scene) where
   at_mark (Raised raise) o e h = cc
   at_mark Lost o e h = cc
 
-pub not_marked : (code : Flat) (first : ℕ) (s : Scene) (o : Operands) → Marked o ≡ evaluated_by false code first s → ⊥
-not_marked code first s o e = at_mark s (evaluated_by false code first s) o e (elsewhere s (instructions_at code first) 0 _)
+pub not_marked : (lines : List FlatLine) (first : ℕ) (s : Scene) (o : Operands) → Marked o ≡ evaluated_in false lines first s → ⊥
+not_marked lines first s o e = at_mark s (evaluated_in false lines first s) o e (elsewhere s (instructions_from (drop first lines)) 0 _)
 
 -- one that ended elsewhere did not reach it
 pub unmarked : (outcome : Outcome) (o : Operands) (x : Ended) → ended outcome o ≡ x → IsMarked false o x
 unmarked (Reaches place) o x e = subst (IsMarked false o) e tt
 unmarked (Fails raise) o x e = subst (IsMarked false o) e tt
+
+-- the ending of a barrier finds its truth value
+truth_left : (last : Last) (c : Counts) → TakesTruth last → LastFine last c → Takes c.booleans (λ n. Unit {0})
+truth_left (Does If) c t h = h
+truth_left last c t h = absurd t
+
+pub has_truth : (outcome : Outcome) (lines : List FlatLine) (o : Operands) → TakesTruth (step_end lines 0).last → FitsIn outcome lines 0 o → HasTruth outcome (counts_of o)
+has_truth (Reaches place) lines o t h = truth_left (step_end lines 0).last (counts_of o) t h
+has_truth (Fails raise) lines o t h = tt

@@ -19,7 +19,8 @@ pub fn load_found(frames: &Frames, operands: &mut Operands) -> Result<(), AllocE
 {
     let target = operands.pop_target();
     operands.push_target(target)?;
-    operands.push(held(target, frames))
+    let value = held(target, frames, operands);
+    operands.push(value)
 }
 
 pub fn pass(operands: &mut Operands) -> Result<(), AllocError>

@@ -8,7 +8,7 @@ ghost use Rattle.aud_expr.specs.Flow.{FindsOperands, Reads};
 
 use crate::flow::Flow;
 use crate::operands::Operands;
-use crate::variables::{target_of, value_of};
+use crate::variables::{target_seen, value_seen};
 use aud_store::frames::Frames;
 use aud_text::int32::Int32;
 use aud_text::raise::Raise;
@@ -27,7 +27,8 @@ pub fn load_element(
 {
     match element_at(array, operands.pop())? {
         Ok(variable) => {
-            operands.push(value_of(variable, display, frames))?;
+            let value = value_seen(variable, display, frames, operands);
+            operands.push(value)?;
             Ok(Flow::Passes(0))
         }
         Err(raise) => Ok(Flow::Raises(raise)),
@@ -47,7 +48,8 @@ pub fn find_element(
 {
     match element_at(array, operands.pop())? {
         Ok(variable) => {
-            operands.push_target(target_of(variable, subtype, display))?;
+            let target = target_seen(variable, subtype, display, frames, operands);
+            operands.push_target(target)?;
             Ok(Flow::Passes(0))
         }
         Err(raise) => Ok(Flow::Raises(raise)),

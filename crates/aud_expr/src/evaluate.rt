@@ -1,16 +1,19 @@
 // One instruction after the other, up to the ending of the step.
 
-ghost use Rattle.std.specs.Prelude.{◌≡◌, ◌+◌, ◌<◌, ◌≤◌, true, if◌then◌else◌, is_ok, IfOk};
-ghost use Rattle.aud_code.specs.Sound.{counts_of, IsStart};
-ghost use Rattle.aud_code.specs.View.{plain_instruction};
+ghost use Rattle.std.specs.Prelude.{◌≡◌, ◌+◌, ◌<◌, ◌≤◌, false, true, if◌then◌else◌, is_ok, drop, length, map, IfOk};
+ghost use Rattle.aud_code.specs.Flat.{decided_by, instructions_from, no_scene};
+ghost use Rattle.aud_code.specs.Sound.{counts_of, IsBarrier, IsStart};
+ghost use Rattle.aud_code.specs.View.{plain_instruction, plain_line};
 ghost use Rattle.aud_expr.specs.declared.flow.Flow.TheVariants.{Passes, Stops};
 ghost use Rattle.aud_expr.specs.Flow.{InSight, FindsOperands, Acts, ended, evaluated_at, evaluated_by, halted};
 ghost use Rattle.aud_expr.specs.Flow.{ReachesEnd, FitsEnd, IsMarked, WhereEnds};
+ghost use Rattle.aud_expr.specs.Flow.{evaluated_in, ReachesIn, FitsIn, HasTruth, StepFine};
 ghost use Rattle.aud_text.specs.declared.limits.TheConstants.{CLOCK};
-ghost use Rattle.aud_expr.specs.Size.{size};
-ghost use Rattle.aud_expr.specs.Ticks.{ticks_at, ticks_by};
+ghost use Rattle.aud_expr.specs.Size.{instructions_in};
+ghost use Rattle.aud_expr.specs.Ticks.{ticks_at, ticks_in};
 
 use crate::arguments::{load_found, pass, pass_copy};
+use crate::components::{begin_object, component};
 use crate::elements::{find_element, load_element};
 use crate::facts::{Facts, count, is_callable, is_terminated};
 use crate::flow::Flow;
@@ -18,7 +21,7 @@ use crate::integers::{check, on_one, on_two};
 use crate::operands::Operands;
 use crate::texts::{append_image, append_truth};
 use crate::truths::{cell, combine, compare, negate, pass_if, relate, truth};
-use crate::variables::{target_of, value_of};
+use crate::variables::{find, load};
 use crate::waiting::{
     milliseconds, name, opens_accept, opens_delay, opens_terminate, pass_unless_next, seconds,
     set_time,
@@ -44,6 +47,13 @@ pub enum Outcome {
     Fails(Raise),
 }
 
+/// What a barrier is, or the exception that its evaluation raises, and how many instructions it executed.
+#[derive(Clone, Copy, PartialEq, Eq)]
+pub struct Decision {
+    pub met: Result<bool, Raise>,
+    pub ticks: u64,
+}
+
 // How an evaluation ends that may stop at the mark, and how many instructions it executed.
 #[derive(Clone, Copy, PartialEq, Eq)]
 struct Halted {
@@ -64,6 +74,7 @@ pub fn eval_step<F: Facts>(
     instruction: &Instruction,
     facts: &F,
     clock: u64,
+    objects: usize,
     display: &[usize],
     frames: &Frames,
     operands: &mut Operands,
@@ -73,14 +84,14 @@ pub fn eval_step<F: Facts>(
     requires room { ticks.old < u64.MAX }
     requires time { clock ≤ CLOCK }
     ensures acts { IfOk result (λ flow.
-        Acts stops (F.facts facts.now) clock display.now frames.now
+        Acts stops (F.facts facts.now) clock objects display.now frames.now
         (plain_instruction instruction.now) flow operands.old operands.new) }
     ensures tick { ticks.new ≡ ticks.old + 1 }
 {
     *ticks += 1;
     match instruction {
         Instruction::Push(value) => passes(operands.push(*value)),
-        Instruction::Load(variable) => passes(operands.push(value_of(*variable, display, frames))),
+        Instruction::Load(variable) => passes(load(*variable, display, frames, operands)),
         Instruction::LoadElement(array) => load_element(*array, display, frames, operands),
         Instruction::OnOne(operator) => on_one(*operator, operands),
         Instruction::OnTwo(operator) => on_two(*operator, operands),
@@ -100,7 +111,7 @@ pub fn eval_step<F: Facts>(
         Instruction::PassIfFalse(count) => pass_if(false, *count, operands),
         Instruction::PassIfTrue(count) => pass_if(true, *count, operands),
         Instruction::Find(variable, subtype) => {
-            passes(operands.push_target(target_of(*variable, *subtype, display)))
+            passes(find(*variable, *subtype, display, frames, operands))
         }
         Instruction::FindElement(array, subtype) => {
             find_element(*array, *subtype, display, frames, operands)
@@ -121,6 +132,8 @@ pub fn eval_step<F: Facts>(
             seconds(operands);
             Ok(Flow::Passes(0))
         }
+        Instruction::BeginObject => passes(begin_object(objects, operands)),
+        Instruction::Component => passes(component(operands)),
         Instruction::OpensAccept(accept) => passes(opens_accept(*accept, operands)),
         Instruction::OpensDelay(alternative) => passes(opens_delay(*alternative, operands)),
         Instruction::OpensTerminate => {
@@ -157,6 +170,7 @@ pub fn evaluate<F: Facts>(
     first: usize,
     facts: &F,
     clock: u64,
+    objects: usize,
     display: &[usize],
     frames: &Frames,
     operands: &mut Operands,
@@ -164,18 +178,26 @@ pub fn evaluate<F: Facts>(
     requires begins { IsStart code.now.lines first }
     requires time { clock ≤ CLOCK }
     ensures ends { IfOk result (λ evaluation.
-        InSight (F.facts facts.now) clock display.now frames.now (λ s.
+        InSight (F.facts facts.now) clock objects display.now frames.now (λ s.
         ended evaluation.outcome operands.new ≡ evaluated_at code.now first s)) }
     ensures reaches { IfOk result (λ evaluation. ReachesEnd evaluation.outcome code.now first) }
     ensures fits { IfOk result (λ evaluation.
         FitsEnd evaluation.outcome code.now first operands.new) }
     ensures ticks { IfOk result (λ evaluation.
-        InSight (F.facts facts.now) clock display.now frames.now (λ s.
+        InSight (F.facts facts.now) clock objects display.now frames.now (λ s.
         evaluation.ticks ≡ ticks_at code.now first s)) }
-    ensures few { IfOk result (λ evaluation. evaluation.ticks ≤ size code.now) }
+    ensures few { IfOk result (λ evaluation. evaluation.ticks ≤ instructions_in code.now.lines) }
 {
     let Halted { halt, ticks } = evaluate_until(
-        false, code, first, facts, clock, display, frames, operands,
+        false,
+        code.lines(),
+        first,
+        facts,
+        clock,
+        objects,
+        display,
+        frames,
+        operands,
     )?;
     match halt {
         Halt::Ends(outcome) => Ok(Evaluation { outcome, ticks }),
@@ -194,46 +216,96 @@ pub fn evaluate_to_mark<F: Facts>(
     operands: &mut Operands,
 ) -> Result<bool, AllocError>
     requires { IsStart code.now.lines first }
-    ensures { IfOk result (λ is_marked. InSight (F.facts facts.now) 0 display.now frames.now (λ s.
+    ensures { IfOk result (λ is_marked. InSight (F.facts facts.now) 0 0 display.now frames.now (λ s.
         IsMarked is_marked operands.new (evaluated_by true code.now first s))) }
 {
-    let halted = evaluate_until(true, code, first, facts, 0, display, frames, operands)?;
+    let halted = evaluate_until(
+        true,
+        code.lines(),
+        first,
+        facts,
+        0,
+        0,
+        display,
+        frames,
+        operands,
+    )?;
     match halted.halt {
         Halt::Ends(_) => Ok(false),
         Halt::Marks => Ok(true),
     }
 }
 
+/// Evaluates a barrier that these lines are (RM 9.5.2(7)).
+pub fn decide<F: Facts>(
+    lines: &[Line],
+    facts: &F,
+    display: &[usize],
+    frames: &Frames,
+    operands: &mut Operands,
+) -> Result<Decision, AllocError>
+    requires { IsBarrier (map plain_line lines.now) }
+    ensures met { IfOk result (λ decision.
+        InSight (F.facts facts.now) 0 0 display.now frames.now (λ s. decision.met ≡
+        decided_by (evaluated_in false (map plain_line lines.now) 0 s))) }
+    ensures few { IfOk result (λ decision.
+        decision.ticks ≤ length (instructions_from (map plain_line lines.now))) }
+{
+    let Halted { halt, ticks } = evaluate_until(
+        false, lines, 0, facts, 0, 0, display, frames, operands,
+    )?;
+    match halt {
+        Halt::Ends(outcome) => Ok(Decision {
+            met: truth_at(outcome, operands),
+            ticks,
+        }),
+        Halt::Marks => unreachable!(),
+    }
+}
+
+// The newest truth value at an ending, or the exception.
+fn truth_at(outcome: Outcome, operands: &mut Operands) -> Result<bool, Raise>
+    requires { HasTruth outcome (counts_of operands.old) }
+    ensures { result ≡ decided_by (ended outcome operands.old) }
+{
+    match outcome {
+        Outcome::Reaches(_) => Ok(operands.pop_truth()),
+        Outcome::Fails(raise) => Err(raise),
+    }
+}
+
 // To its ending, or to an exception; where it `stops`, to its mark.
 fn evaluate_until<F: Facts>(
     stops: bool,
-    code: &SoundCode,
+    lines: &[Line],
     first: usize,
     facts: &F,
     clock: u64,
+    objects: usize,
     display: &[usize],
     frames: &Frames,
     operands: &mut Operands,
 ) -> Result<Halted, AllocError>
-    requires begins { IsStart code.now.lines first }
+    requires fine { StepFine (map plain_line lines.now) first }
     requires time { clock ≤ CLOCK }
     ensures ends { IfOk result (λ h.
-        InSight (F.facts facts.now) clock display.now frames.now (λ s.
-        halted h.halt operands.new ≡ evaluated_by stops code.now first s)) }
+        InSight (F.facts facts.now) clock objects display.now frames.now (λ s.
+        halted h.halt operands.new ≡ evaluated_in stops (map plain_line lines.now) first s)) }
     ensures reaches { IfOk result (λ h.
-        WhereEnds h.halt (λ outcome. ReachesEnd outcome code.now first)) }
-    ensures fits { IfOk result (λ h.
-        WhereEnds h.halt (λ outcome. FitsEnd outcome code.now first operands.new)) }
+        WhereEnds h.halt (λ outcome. ReachesIn outcome (map plain_line lines.now) first)) }
+    ensures fits { IfOk result (λ h. WhereEnds h.halt (λ outcome.
+        FitsIn outcome (map plain_line lines.now) first operands.new)) }
     ensures ticks { IfOk result (λ h.
-        InSight (F.facts facts.now) clock display.now frames.now (λ s.
-        h.ticks ≡ ticks_by stops code.now first s)) }
-    ensures few { IfOk result (λ h. h.ticks ≤ size code.now) }
+        InSight (F.facts facts.now) clock objects display.now frames.now (λ s.
+        h.ticks ≡ ticks_in stops (map plain_line lines.now) first s)) }
+    ensures few { IfOk result (λ h.
+        h.ticks ≤ length (instructions_from (drop first (map plain_line lines.now)))) }
 {
     operands.clear();
     let mut ticks = 0;
     let mut passed = 0;
-    for place in first..code.len() {
-        let instruction = match code.line(place) {
+    for place in first..lines.len() {
+        let instruction = match &lines[place] {
             Line::Instruction(instruction) => instruction,
             Line::End(_) => {
                 let halt = Halt::Ends(Outcome::Reaches(place));
@@ -249,6 +321,7 @@ fn evaluate_until<F: Facts>(
             instruction,
             facts,
             clock,
+            objects,
             display,
             frames,
             operands,
@@ -266,6 +339,6 @@ fn evaluate_until<F: Facts>(
             }
         }
     }
-    let halt = Halt::Ends(Outcome::Reaches(code.len()));
+    let halt = Halt::Ends(Outcome::Reaches(lines.len()));
     Ok(Halted { halt, ticks })
 }

@@ -8,7 +8,7 @@ ghost use Rattle.aud_expr.specs.declared.flow.Flow.TheVariants.{Passes};
 ghost use Rattle.aud_expr.specs.Flow.{FindsOperands, Asks, Seen};
 
 use crate::operands::Operands;
-use crate::variables::value_of;
+use crate::variables::value_seen;
 use aud_store::frames::Frames;
 use aud_text::int32::Int32;
 use aud_typed::program::Variable;
@@ -31,6 +31,7 @@ pub trait Facts {
         ensures { result ≡ (facts self.now).terminated task };
 }
 
+#[tactic(auto, using(crate::proofs::OwnCells::facts_same))]
 pub fn is_callable<F: Facts>(facts: &F, operands: &mut Operands) -> Result<(), AllocError>
     requires { FindsOperands IsCallable (counts_of operands.old) }
     ensures { OnOk result
@@ -40,6 +41,7 @@ pub fn is_callable<F: Facts>(facts: &F, operands: &mut Operands) -> Result<(), A
     operands.push_truth(facts.is_callable(task))
 }
 
+#[tactic(auto, using(crate::proofs::OwnCells::facts_same))]
 pub fn is_terminated<F: Facts>(facts: &F, operands: &mut Operands) -> Result<(), AllocError>
     requires { FindsOperands IsTerminated (counts_of operands.old) }
     ensures { OnOk result
@@ -49,8 +51,9 @@ pub fn is_terminated<F: Facts>(facts: &F, operands: &mut Operands) -> Result<(),
     operands.push_truth(facts.is_terminated(task))
 }
 
-/// How many calls are queued on this entry of the task whose number the variable's cell holds. Memory holds no more of them than an
-/// Integer is large.
+/// How many calls are queued on this entry of the task or object whose number the variable's cell holds. Memory holds no more of them
+/// than an Integer is large.
+#[tactic(auto, using(crate::proofs::OwnCells::facts_same))]
 pub fn count<F: Facts>(
     variable: Variable,
     entry: usize,
@@ -62,13 +65,13 @@ pub fn count<F: Facts>(
     ensures { OnOk result (Seen (F.facts facts.now) display.now frames.now
         (Count variable entry) (Passes 0) operands.old operands.new) }
 {
-    let owner = number_in(value_of(variable, display, frames));
+    let owner = number_in(value_seen(variable, display, frames, operands));
     let count = integer_of(facts.count(owner, entry))?;
     operands.push(count)
 }
 
-// A number as an Integer. Memory is refused where it is too large for one, since no memory holds so many calls.
-fn integer_of(number: usize) -> Result<Int32, AllocError>
+/// A number as an Integer. Memory is refused where it is too large for one, since no memory holds so many calls or objects.
+pub fn integer_of(number: usize) -> Result<Int32, AllocError>
     ensures { IfOk result (λ z. z ≡ pos number) }
 {
     match i32::try_from(number) {

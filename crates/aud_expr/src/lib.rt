@@ -2,6 +2,7 @@
 #![tactic(auto)]
 
 mod arguments;
+mod components;
 mod elements;
 pub mod evaluate;
 pub mod facts;
@@ -14,5 +15,5 @@ pub mod operators;
 pub mod stack;
 mod texts;
 mod truths;
-mod variables;
+pub mod variables;
 mod waiting;

@@ -1,13 +1,15 @@
-// What the instructions of a step work on: Integers, truth values, targets, arguments, tasks that are named, a text that grows, and
-// what is waited for.
+// What the instructions of a step work on: Integers, truth values, targets, arguments, tasks that are named, a text that grows, the
+// cells of an object that is declared, and what is waited for.
 
-ghost use Rattle.std.specs.Prelude.{◌≡◌, ◌<◌, ◌≤◌, ◌+◌, [], ◌∷◌, ◌++◌, None, true, reverse, length, OnOk};
+ghost use Rattle.std.specs.Prelude.{◌≡◌, ◌<◌, ◌≤◌, ◌+◌, [], ◌∷◌, ◌++◌, Some, true, reverse, length, OnOk};
 ghost use Rattle.aud_text.specs.Integer.{image};
 ghost use Rattle.aud_meaning.specs.Evaluation.{image_of_truth};
 ghost use Rattle.aud_typed.specs.Ties.View.{milliseconds_in};
 ghost use Rattle.aud_code.specs.Instruction.{Operands as Plain, no_operands};
-ghost use Rattle.aud_code.specs.Eval.{newest, is_next};
+ghost use Rattle.aud_code.specs.Eval.{newest, is_next, one_cell_more};
+ghost use Rattle.aud_code.specs.Sound.{is_some};
 ghost use Rattle.aud_expr.specs.Operands.{with_integer, with_truth, with_target, with_name, with_delay, with_waits, with_time, passed_next};
+ghost use Rattle.aud_expr.specs.Operands.{own_cells, with_cells};
 ghost use Rattle.aud_text.specs.declared.limits.TheConstants.{CLOCK};
 
 use aud_meaning::state::{OpenAccept, OpenDelay};
@@ -30,6 +32,9 @@ pub struct Operands {
     backs: Vec<Back>,
     names: Vec<usize>,
     delay: Duration,
+    /// Whether an object is declared whose cells have begun, and its cells so far.
+    declares: bool,
+    cells: Vec<Int32>,
     accepts: Vec<OpenAccept>,
     delays: VecDeque<OpenDelay>,
     terminate: bool,
@@ -43,8 +48,9 @@ const NOW: Duration = Duration {
 };
 
 impl Model for Operands {
-    ghost use Rattle.std.specs.Prelude.{None, reverse};
+    ghost use Rattle.std.specs.Prelude.{reverse};
     ghost use Rattle.aud_code.specs.Instruction.{Operands as Plain};
+    ghost use Rattle.aud_expr.specs.Operands.{begun};
     ghost use Rattle.aud_typed.specs.Ties.View.{milliseconds_in};
 
     ghost Value = { Plain };
@@ -58,7 +64,7 @@ impl Model for Operands {
       backs = o.backs.items;
       names = o.names.items;
       delay = milliseconds_in o.delay;
-      cells = None;
+      cells = begun o.declares o.cells.items;
       waits = record { accepts = o.accepts.items; delays = o.delays.items; terminate = o.terminate };
       timed = o.timed.items;
     } };
@@ -78,6 +84,8 @@ impl Operands {
             backs: Vec::new(alloc),
             names: Vec::new(alloc),
             delay: NOW,
+            declares: false,
+            cells: Vec::new(alloc),
             accepts: Vec::new(alloc),
             delays: VecDeque::new(alloc),
             terminate: false,
@@ -97,16 +105,17 @@ impl Operands {
         self.backs.clear();
         self.names.clear();
         self.delay = NOW;
+        self.declares = false;
+        self.cells.clear();
         self.accepts.clear();
         self.delays.clear();
         self.terminate = false;
         self.timed.clear();
     }
 
-    /// One more Integer. No object is being declared, as yet.
+    /// One more Integer.
     pub fn push(&mut self, value: Int32) -> Result<(), AllocError>
-        ensures pushed { OnOk result (self.new ≡ with_integer value self.old) }
-        ensures no_object { self.old.cells ≡ None }
+        ensures { OnOk result (self.new ≡ with_integer value self.old) }
     {
         self.integers.push(value.get())?;
         Ok(())
@@ -123,10 +132,9 @@ impl Operands {
         }
     }
 
-    /// One more truth value. No object is being declared, as yet.
+    /// One more truth value.
     pub fn push_truth(&mut self, value: bool) -> Result<(), AllocError>
-        ensures pushed { OnOk result (self.new ≡ with_truth value self.old) }
-        ensures no_object { self.old.cells ≡ None }
+        ensures { OnOk result (self.new ≡ with_truth value self.old) }
     {
         self.booleans.push(value)?;
         Ok(())
@@ -152,10 +160,9 @@ impl Operands {
         (self.pop_truth(), newest)
     }
 
-    /// One more target. No object is being declared, as yet.
+    /// One more target.
     pub fn push_target(&mut self, target: Target) -> Result<(), AllocError>
-        ensures pushed { OnOk result (self.new ≡ with_target target self.old) }
-        ensures no_object { self.old.cells ≡ None }
+        ensures { OnOk result (self.new ≡ with_target target self.old) }
     {
         self.targets.push(target)?;
         Ok(())
@@ -248,6 +255,41 @@ impl Operands {
         ensures { milliseconds_in result ≡ self.now.delay }
     {
         self.delay
+    }
+
+    /// The cells of an object begin that is declared; the first one has its number.
+    pub fn begin_object(&mut self, number: Int32) -> Result<(), AllocError>
+        ensures { OnOk result (self.new ≡ with_cells (Some (number ∷ [])) self.old) }
+    {
+        self.cells.clear();
+        self.cells.push(number)?;
+        self.declares = true;
+        Ok(())
+    }
+
+    /// One more of them.
+    pub fn add_component(&mut self, value: Int32) -> Result<(), AllocError>
+        ensures { OnOk result
+            (self.new ≡ with_cells (one_cell_more value self.old.cells) self.old) }
+    {
+        if self.declares {
+            self.cells.push(value)?;
+        }
+        Ok(())
+    }
+
+    /// Whether they have begun.
+    pub fn declares(&self) -> bool
+        ensures { result ≡ is_some self.now.cells }
+    {
+        self.declares
+    }
+
+    /// Those so far.
+    pub fn cells(&self) -> &[Int32]
+        ensures { result.now ≡ own_cells self.now.cells }
+    {
+        if self.declares { &self.cells } else { &[] }
     }
 
     /// One more accept that is open.

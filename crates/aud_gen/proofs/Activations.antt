@@ -1,7 +1,7 @@
 -- In a program in memory, declarative parts alone activate tasks.
 use Rattle.std.proofs.Common.{List, [], ◌∷◌, ◌++◌, map, Bool, true, false, refl}
 use Rattle.aud_text.specs.declared.place.Pos.{Pos}
-use Rattle.aud_typed.specs.declared.program.Statement.{Statement, Declare, DeclareArray, DeclareTasks, Activated, Null, Assign, Put, If', While', Loop', For', Exit, Raise, RaiseAgain, Block', Return, ProcedureCall, EntryCall', Delay, Accept', Select', Row_of-Statement, end_of-Statement, more_of-Statement}
+use Rattle.aud_typed.specs.declared.program.Statement.{Statement, Declare, DeclareArray, DeclareTasks, DeclareObject, Activated, Null, Assign, Put, If', While', Loop', For', Exit, Raise, RaiseAgain, Block', Return, ReturnValue, ProcedureCall, OwnEntryCall, OperationCall, EntryCall', Delay, Accept', Select', Row_of-Statement, end_of-Statement, more_of-Statement}
 use Rattle.aud_typed.specs.declared.program.IfStatement.{IfStatement, IfStatement', Row_of-Arm, end_of-Arm, more_of-Arm}
 use Rattle.aud_typed.specs.declared.program.BlockStatement.{BlockStatement, BlockStatement'}
 use Rattle.aud_typed.specs.declared.program.AcceptStatement.{AcceptStatement, AcceptStatement', Held-AcceptStatement-doing, None', Some'}
@@ -44,6 +44,7 @@ mutual
   statement_activates declares (Declare at up_to e) = tt
   statement_activates declares (DeclareArray at t n) = tt
   statement_activates declares (DeclareTasks at ts) = tt
+  statement_activates declares (DeclareObject at n es) = tt
   statement_activates declares (Activated at) = tt
   statement_activates declares (Null at) = tt
   statement_activates declares (Assign at r e) = tt
@@ -57,8 +58,11 @@ mutual
   statement_activates declares (RaiseAgain at) = tt
   statement_activates declares (Block' _ b) = block_activates declares b
   statement_activates declares (Return at) = tt
-  statement_activates declares (ProcedureCall at unit arguments) = tt
-  statement_activates declares (EntryCall' _ at task entry arguments form _ after _ otherwise) = (part_activates false (plain_row after) (row_activates false after), part_activates false (plain_row otherwise) (row_activates false otherwise))
+  statement_activates declares (ReturnValue at e) = tt
+  statement_activates declares (ProcedureCall at c) = tt
+  statement_activates declares (OwnEntryCall at arguments form) = tt
+  statement_activates declares (OperationCall at v c) = tt
+  statement_activates declares (EntryCall' _ at callee entry arguments form _ after _ otherwise) = (part_activates false (plain_row after) (row_activates false after), part_activates false (plain_row otherwise) (row_activates false otherwise))
   statement_activates declares (Delay at e) = tt
   statement_activates declares (Accept' _ s) = accept_activates declares s
   statement_activates declares (Select' _ at _ alternatives _ otherwise) = (alternatives_activate alternatives, part_activates false (plain_row otherwise) (row_activates false otherwise))

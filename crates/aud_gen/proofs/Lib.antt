@@ -1,4 +1,5 @@
 pub mod Loops
+pub mod Calls
 pub mod Writing
 pub mod Lists
 pub mod Lines

@@ -1,17 +1,19 @@
 -- The table of frames, counted line by line and body by body.
-use Rattle.std.proofs.Common.{◌≡◌, ◌⊎◌, inl, inr, ℕ, zero, suc, ◌+◌, ◌-◌, ◌≤◌, ◌<◌, List, [], ◌∷◌, ◌++◌, length, drop, get_or, map, slice_get, slice_index_or, Option, Some, None, refl, sym, ap, ◌∙◌, subst, arith, append_assoc, append-nil, length-append}
+use Rattle.std.proofs.Common.{◌≡◌, ◌⊎◌, inl, inr, ℕ, zero, suc, ◌+◌, ◌≤◌, ◌<◌, List, [], ◌∷◌, ◌++◌, length, drop, get_or, map, slice_get, slice_index_or, Option, Some, None, refl, sym, ap, ◌∙◌, subst, arith, append_assoc, append-nil}
 use Rattle.std.proofs.lemmas.Bool.{cases_lt}
 use Rattle.std.proofs.lemmas.List.{drop_all, get_or_append_left}
 use Rattle.aud_typed.specs.declared.program.Unit as declared
+use Rattle.aud_typed.specs.declared.program.Entry.{Entry}
 use Rattle.aud_typed.specs.declared.program.TaskType.{TaskType}
 use Rattle.aud_typed.specs.Tree as tree
-use Rattle.aud_typed.specs.Ties.View.{plain_task_type, plain_unit}
+use Rattle.aud_typed.specs.Ties.View.{plain_entry, plain_task_type, plain_unit}
+use Rattle.aud_meaning.specs.Parts.{no_unit}
 use Rattle.aud_code.specs.Flat.{EndLine, FlatLine}
-use Rattle.aud_code.specs.Frames.{found}
 use Rattle.aud_layout.specs.Layout.{body_size_by, starts_from_by, spare_from_by}
-use Rattle.aud_layout.specs.Opened.{body_of, level_of, opened_in, IsBefore, next_start, PlaceCounts, BodyCounts, BodiesCount}
+use Rattle.aud_layout.specs.Opened as opened
+use Rattle.aud_layout.specs.Opened.{body_of, level_of, opened_in, IsBefore, next_start, PlaceCounts, BodiesCount}
 use Rattle.aud_layout.specs.Written.{flat_step}
-use Rattle.aud_gen.specs.Opening.{body_in_type, level_in, AreCounted, AreOrdered, Grows, StepWithin}
+use Rattle.aud_gen.specs.Opening.{body_in_type, frames_before, level_in, AreCounted, AreOrdered, Grows, StepWithin}
 use Rattle.aud_gen.specs.Writes.{bodies_in}
 use Rattle.aud_gen.proofs.Loops.{dropped}
 use Rattle.aud_gen.proofs.Units.{with_starts, with_spare}
@@ -131,6 +133,22 @@ levels_open (u ∷ us) = ap (λ ns. u.level ∷ ns) (levels_open us)
 pub types_open : (ts : List TaskType) → map body_in_type ts ≡ map body_of (map plain_task_type ts)
 types_open [] = refl
 types_open (t ∷ ts) = ap (λ ns. t.unit ∷ ns) (types_open ts)
+
+-- how many frames each barrier sees
+level_opens : (us : List declared.Unit) (n : ℕ) → slice_index_or (map level_in us) n 0 ≡ (slice_index_or (map tree.unit_plan (map plain_unit us)) n no_unit).level
+level_opens [] zero = refl
+level_opens [] (suc n) = refl
+level_opens (u ∷ us) zero = refl
+level_opens (u ∷ us) (suc n) = level_opens us n
+
+pub frames_open : (plan : tree.Plan) (us : List declared.Unit) (es : List Entry) → plan.units ≡ map tree.unit_plan (map plain_unit us) → map (frames_before us) es ≡ map (opened.frames_before plan) (map tree.plan_of_entry (map plain_entry es))
+frames_open plan us [] units = refl
+frames_open plan us (e ∷ es) units =
+    let n = (plain_entry e).unit in
+    let here : frames_before us e ≡ opened.frames_before plan (tree.plan_of_entry (plain_entry e)) =
+    level_opens us n ∙ ap (λ ps. (slice_index_or ps n no_unit).level) (sym units) in
+    ap (λ k. k ∷ map (frames_before us) es) here
+    ∙ ap (λ ns. opened.frames_before plan (tree.plan_of_entry (plain_entry e)) ∷ ns) (frames_open plan us es units)
 
 -- the bodies of task types, one after the other
 abbrev pub Types_left : List ℕ → List TaskType → List TaskType → Type 0

@@ -9,6 +9,8 @@ use Rattle.aud_typed.specs.Tree as tree
 use Rattle.aud_meaning.specs.declared.state.Construct.TheVariants as construct
 use Rattle.aud_meaning.specs.Items.{no_body}
 use Rattle.aud_code.specs.Flat.{FlatLine}
+use Rattle.aud_code.specs.Instruction.{Instruction}
+use Rattle.aud_layout.specs.Instructions.{condition_code}
 use Rattle.aud_layout.specs.Layout.{Around, in_call, body_size_by, end_place_by, unit_code_by, units_code_by, starts_from_by, spare_from_by}
 use Rattle.aud_layout.specs.Written.{flat_step, written, written_bodies}
 use Rattle.aud_layout.proofs.Flat.Assembly.{assembled_append}
@@ -62,11 +64,12 @@ pub one_spare : (b : tree.Body) (rest : List tree.Body) (whole : ℕ) (now new :
 one_spare b rest whole now new h left = ap (spare_from_by flat_step rest) (unit_there b now new h) ∙ left
 
 -- all bodies, and the one for numbers that none has
-pub units_written : (bs : List tree.Body) (now lines : List FlatLine) (starts : List ℕ) (spare : ℕ) → with_units now [] ≡ written (units_code_by flat_step bs 0) → with_starts starts now [] ≡ starts_from_by flat_step bs 0 → with_spare now [] ≡ spare_from_by flat_step bs 0 → spare ≡ length now → lines ≡ now ++ unit_lines no_body (length now) → record { lines = lines; starts = starts; spare = spare; barriers = [] } ≡ written_bodies bs []
-units_written bs now lines starts spare written_all started spared there last =
-    ap (λ ls. record { lines = ls; starts = starts; spare = spare; barriers = [] }) (last ∙ written_all)
-    ∙ ap (λ ns. record { lines = written (units_code_by flat_step bs 0); starts = ns; spare = spare; barriers = [] }) (sym (append-nil starts) ∙ started)
-    ∙ ap (λ n. record { lines = written (units_code_by flat_step bs 0); starts = starts_from_by flat_step bs 0; spare = n; barriers = [] }) (there ∙ spared)
+pub units_written : (bs : List tree.Body) (es : List tree.BooleanExpression) (now lines : List FlatLine) (starts : List ℕ) (spare : ℕ) (barriers : List (List Instruction)) → with_units now [] ≡ written (units_code_by flat_step bs 0) → with_starts starts now [] ≡ starts_from_by flat_step bs 0 → with_spare now [] ≡ spare_from_by flat_step bs 0 → spare ≡ length now → lines ≡ now ++ unit_lines no_body (length now) → barriers ≡ map condition_code es → record { lines = lines; starts = starts; spare = spare; barriers = barriers } ≡ written_bodies bs es
+units_written bs es now lines starts spare barriers written_all started spared there last are =
+    ap (λ ls. record { lines = ls; starts = starts; spare = spare; barriers = barriers }) (last ∙ written_all)
+    ∙ ap (λ ns. record { lines = written (units_code_by flat_step bs 0); starts = ns; spare = spare; barriers = barriers }) (sym (append-nil starts) ∙ started)
+    ∙ ap (λ n. record { lines = written (units_code_by flat_step bs 0); starts = starts_from_by flat_step bs 0; spare = n; barriers = barriers }) (there ∙ spared)
+    ∙ ap (λ is. record { lines = written (units_code_by flat_step bs 0); starts = starts_from_by flat_step bs 0; spare = spare_from_by flat_step bs 0; barriers = is }) are
 
 -- the bodies of a program are those of its units
 pub bodies_open : (units : List declared.Unit) → bodies_in units ≡ map (λ (u : tree.UnitBody). u.body) (map plain_unit units)

@@ -1,7 +1,9 @@
 -- What is counted of the frames beside code so far.
-use Rattle.std.specs.Prelude.{◌≡◌, ◌≤◌, ℕ, List, [], ◌∷◌, ◌++◌, Option, Some}
+use Rattle.std.specs.Prelude.{◌≡◌, ◌≤◌, ℕ, List, [], ◌∷◌, ◌++◌, Option, Some, map, slice_index_or}
+use Rattle.aud_typed.specs.declared.program.Entry.{Entry}
 use Rattle.aud_typed.specs.declared.program.TaskType.{TaskType}
 use Rattle.aud_typed.specs.declared.program.Unit as declared
+use Rattle.aud_typed.specs.Ties.View.{plain_entry}
 use Rattle.aud_code.specs.Flat.{EndLine, FlatLine}
 use Rattle.aud_code.specs.Frames.{found}
 use Rattle.aud_layout.specs.Opened.{BodyCounts}
@@ -27,3 +29,7 @@ body_in_type t = t.unit
 
 abbrev pub level_in : declared.Unit → ℕ
 level_in u = u.level
+
+-- how many frames the barrier of an entry sees: those that the entry's body sees besides its own
+abbrev pub frames_before : List declared.Unit → Entry → ℕ
+frames_before units e = slice_index_or (map level_in units) (plain_entry e).unit 0

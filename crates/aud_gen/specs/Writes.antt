@@ -13,17 +13,19 @@ use Rattle.aud_typed.specs.declared.program.AcceptStatement.{AcceptStatement}
 use Rattle.aud_typed.specs.declared.program.SelectStatement.{SelectStatement, out-SelectStatement}
 use Rattle.aud_typed.specs.declared.program.Alternative.{Alternative}
 use Rattle.aud_typed.specs.declared.program.Unit as declared
-use Rattle.aud_typed.specs.Ties.View.{plain_integer, plain_boolean, plain_statements, statements_in, body_in, plain_alternative, alternatives_in, entry_call_in, accept_in, select_in}
+use Rattle.aud_typed.specs.declared.program.Entry.{Entry}
+use Rattle.aud_typed.specs.declared.program.EntryBody.{EntryBody}
+use Rattle.aud_typed.specs.Ties.View.{plain_integer, plain_boolean, plain_statements, statements_in, body_in, plain_entry, plain_alternative, alternatives_in, entry_call_in, accept_in, select_in}
 use Rattle.aud_meaning.specs.declared.state.Construct.{Construct}
 use Rattle.aud_meaning.specs.Items.{no_body}
 use Rattle.aud_code.specs.Places.{Way}
-use Rattle.aud_code.specs.Instruction.{Instruction, Combine, Mark, PassIfFalse, PassIfTrue}
+use Rattle.aud_code.specs.Instruction.{Instruction, Combine, Component, Mark, Name, PassIfFalse, PassIfTrue}
 use Rattle.aud_code.specs.Flat as flat
 use Rattle.aud_code.specs.Flat.{FlatLine, Flat}
 use Rattle.aud_code.specs.View.{plain_end}
 use Rattle.aud_code.specs.declared.line.Last.{Last}
 use Rattle.aud_code.specs.declared.line.Offer.{Offer}
-use Rattle.aud_layout.specs.Instructions.{condition_code, guards_code, delays_code}
+use Rattle.aud_layout.specs.Instructions.{condition_code, task_code, value_code, guards_code, delays_code}
 use Rattle.aud_layout.specs.Layout.{Around, ways_count, around_out, in_call, continues, line, end_line, part_place, stubs, guard_line_by, statement_size_by, part_size_by, offered_size_by, parts_from_by, bodies_from_by, statement_code_by, part_code_by, doing_code_by, offered_code_by, handlers_code_by, unit_code_by}
 use Rattle.aud_layout.specs.Assembly.{within_moved, step_lines}
 use Rattle.aud_layout.specs.Written.{flat_step, written, written_bodies}
@@ -121,6 +123,15 @@ call_step s place next a =
 abbrev pub accept_lines : AcceptStatement → (start next out : ℕ) → Option ℕ → List FlatLine
 accept_lines s start next out within = written (line (accept_in s) (next ∷ []) (start ∷ []) None (in_call within out) ∷ [])
 
+-- whose entry is called
+abbrev pub callee_code : tree.Callee → List Instruction
+callee_code (tree.of_task t) = task_code t ++ (Name ∷ Mark ∷ [])
+callee_code (tree.of_object v) = []
+
+-- one component of an object that is declared
+abbrev pub component_code : tree.ValueExpression → List Instruction
+component_code e = value_code e ++ Component ∷ []
+
 -- the instructions of a selective accept; its step, which stands at a place
 abbrev pub choice_code : tree.Alternatives → List Instruction
 choice_code offered = guards_code 1 offered ++ (Mark ∷ delays_code 1 offered)
@@ -174,8 +185,16 @@ unit_lines b place = written (unit_code_by flat_step b place)
 abbrev pub bodies_in : List declared.Unit → List tree.Body
 bodies_in units = map (λ (u : declared.Unit). body_in u.body) units
 
-abbrev pub units_code : List declared.Unit → Flat
-units_code units = written_bodies (bodies_in units) []
+-- the barriers of entries; a task's has none, and is open
+abbrev pub barrier_in : Option EntryBody → tree.BooleanExpression
+barrier_in None = tree.truth true
+barrier_in (Some b) = plain_boolean b.barrier
+
+abbrev pub barriers_in : List Entry → List tree.BooleanExpression
+barriers_in entries = map (λ (e : tree.EntryBody). e.barrier) (map plain_entry entries)
+
+abbrev pub units_code : List declared.Unit → List Entry → Flat
+units_code units entries = written_bodies (bodies_in units) (barriers_in entries)
 
 -- of a body that no program has
 abbrev pub idle_lines : ℕ → List FlatLine

@@ -1,13 +1,14 @@
 // The steps of entry calls and accepts.
 
-ghost use Rattle.std.specs.Prelude.{◌≡◌, length, map, IfOk};
+ghost use Rattle.std.specs.Prelude.{◌≡◌, ◌∷◌, [], length, map, IfOk};
 ghost use Rattle.aud_typed.specs.declared.program.AcceptStatement.{out-AcceptStatement};
+ghost use Rattle.aud_typed.specs.declared.program.EntryCallStatement.{out-EntryCallStatement};
 ghost use Rattle.aud_typed.specs.Tree.{part_of};
-ghost use Rattle.aud_typed.specs.Ties.View.{alternatives_in, doing_in, entry_call_in, plain_form, plain_statements};
+ghost use Rattle.aud_typed.specs.Ties.View.{alternatives_in, doing_in, entry_call_in, plain_callee, plain_form, plain_statements};
 ghost use Rattle.aud_meaning.specs.Statements.{has_else, region_of};
 ghost use Rattle.aud_code.specs.Flat.{instructs};
-ghost use Rattle.aud_code.specs.View.{behind_offers, bodies_offered, plain_kind};
-ghost use Rattle.aud_layout.specs.Instructions.{delays_code, form_kind, guards_code, instructions_of};
+ghost use Rattle.aud_code.specs.View.{behind_offers, beside, bodies_in, bodies_offered, plain_among, plain_kind};
+ghost use Rattle.aud_layout.specs.Instructions.{call_end, delays_code, form_kind, guards_code, instructions_of};
 ghost use Rattle.aud_layout.specs.Layout.{bodies_from_by, doing_place, part_place, parts_from_by};
 ghost use Rattle.aud_layout.specs.Leading.{around};
 ghost use Rattle.aud_layout.specs.Written.{flat_step};
@@ -24,7 +25,8 @@ use aud_layout::sum::sum;
 use aud_layout::ways::Ways;
 use aud_meaning::state::OpenAccept;
 use aud_typed::program::{
-    AcceptStatement, Alternative, CallForm, Doing, EntryCallStatement, SelectStatement, Statement,
+    AcceptStatement, Alternative, CallForm, Callee, Doing, EntryCallStatement, SelectStatement,
+    Statement,
 };
 use std::alloc::{AllocError, Global};
 
@@ -62,24 +64,16 @@ impl Writer {
             (call_lines call.now next otherwise out within) }
     {
         self.write_call_code(call)?;
-        let among = Among::Call {
-            entry: call.entry,
-            kind: kind_of(&call.form),
-            otherwise,
-        };
-        self.concern(among, next, call.at, out, within)
+        self.concern(call_of(call, otherwise), next, call.at, out, within)
     }
 
-    // The task, the arguments, and the time that the call waits.
+    // Whose entry is called, the arguments, and the time that the call waits.
     fn write_call_code(&mut self, call: &EntryCallStatement) -> Written
         ensures { Writes result self.old self.new
             (map instructs (instructions_of (entry_call_in call.now))) }
     {
-        self.write_task(&call.task)?;
-        self.instruct(Instruction::Name)?;
-        self.instruct(Instruction::Mark)?;
-        self.write_arguments(&call.arguments)?;
-        self.write_form(&call.form)
+        self.write_callee(&call.callee)?;
+        self.write_called(&call.arguments, &call.form)
     }
 
     /// The step of an accept. What it does begins at the place `body`, and the step `next` comes behind it.
@@ -246,6 +240,30 @@ fn has_else(ss: &[Statement]) -> bool
     ensures { result ≡ has_else (part_of (plain_statements ss.now)) }
 {
     !ss.is_empty()
+}
+
+// How the step of an entry call ends, which leads to the place `otherwise` where the call is left.
+fn call_of(call: &EntryCallStatement, otherwise: usize) -> Among
+    ensures ending { (let c = out-EntryCallStatement call.now in
+        plain_among result ≡ call_end (plain_callee c.callee) c.entry (plain_form c.form)) }
+    ensures ways { beside result ≡ otherwise ∷ [] }
+    ensures bodies { bodies_in result ≡ [] }
+{
+    let entry = call.entry;
+    let kind = kind_of(&call.form);
+    match &call.callee {
+        Callee::Task(_) => Among::Call {
+            entry,
+            kind,
+            otherwise,
+        },
+        Callee::Object(object) => Among::CallObject {
+            object: *object,
+            entry,
+            kind,
+            otherwise,
+        },
+    }
 }
 
 fn kind_of(form: &CallForm) -> CallKind

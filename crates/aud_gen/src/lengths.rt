@@ -3,21 +3,23 @@
 ghost use Rattle.std.specs.Prelude.{◌≡◌, ◌+◌, ◌^◌, ◌-◌, ◌<◌, ℕ, length, IfOk};
 ghost use Rattle.aud_typed.specs.Tree.{part_of};
 ghost use Rattle.aud_typed.specs.Ties.View.{alternatives_in, doing_in, entry_call_in, select_in, plain_delay, plain_form};
-ghost use Rattle.aud_typed.specs.Ties.View.{plain_argument, plain_arguments};
+ghost use Rattle.aud_typed.specs.Ties.View.{plain_argument, plain_arguments, plain_callee, plain_calling, plain_into, plain_values};
 ghost use Rattle.aud_typed.specs.Ties.View.{plain_integer, plain_task, plain_boolean, plain_value, plain_reference, plain_text, plain_statement, plain_statements, statements_in, if_in, for_in, handlers_in, elaborations_in, body_in, block_in};
 ghost use Rattle.aud_typed.specs.declared.program.Subtype.{Subtype};
 ghost use Rattle.aud_layout.specs.Instructions.{argument_code, arguments_code, copied_code};
 ghost use Rattle.aud_layout.specs.Instructions.{delay_code, form_code, guards_code, delays_code, instructions_of};
+ghost use Rattle.aud_layout.specs.Instructions.{called_code, components_code, entered_code, into_code};
 ghost use Rattle.aud_layout.specs.Instructions.{integer_code, task_code, condition_code, value_code, reference_code, text_code};
 ghost use Rattle.aud_layout.specs.Layout.{statement_size_by, part_size_by, handlers_size_by, body_size_by, end_place_by, doing_size_by, offered_size_by};
 ghost use Rattle.aud_layout.specs.Written.{flat_step};
-ghost use Rattle.aud_gen.specs.Writes.{alone, alternative_size, arm_length, choice_code, counted};
+ghost use Rattle.aud_gen.specs.Writes.{alone, alternative_size, arm_length, callee_code, choice_code, counted};
 
 use aud_layout::sum::sum;
 use aud_typed::program::{
-    Alternative, Argument, Arm, BlockStatement, Body, BooleanExpression, CallForm, DelayExpression,
-    Doing, EntryCallStatement, ForStatement, Handler, IfStatement, IntegerExpression, Reference,
-    SelectStatement, Statement, Statements, TaskName, TextExpression, ValueExpression,
+    Alternative, Argument, Arm, BlockStatement, Body, BooleanExpression, CallForm, Callee, Calling,
+    DelayExpression, Doing, EntryCallStatement, ForStatement, Handler, IfStatement,
+    IntegerExpression, Reference, SelectStatement, Statement, Statements, TaskName, TextExpression,
+    ValueExpression,
 };
 use std::alloc::AllocError;
 
@@ -177,14 +179,59 @@ fn form_length(form: &CallForm) -> usize
     }
 }
 
+/// Of the arguments of a call, and the time that it waits.
+pub fn called_length(arguments: &[Argument], form: &CallForm) -> usize
+    ensures { result ≡
+        counted (length (called_code (plain_arguments arguments.now) (plain_form form.now))) }
+{
+    arguments_length(arguments).saturating_add(form_length(form))
+}
+
+// Of whose entry is called.
+fn callee_length(callee: &Callee) -> usize
+    ensures { result ≡ counted (length (callee_code (plain_callee callee.now))) }
+{
+    match callee {
+        Callee::Task(task) => task_length(task).saturating_add(2),
+        Callee::Object(_) => 0,
+    }
+}
+
 /// Of the instructions of an entry call.
 pub fn call_length(call: &EntryCallStatement) -> usize
     ensures { result ≡ counted (length (instructions_of (entry_call_in call.now))) }
 {
-    task_length(&call.task)
-        .saturating_add(arguments_length(&call.arguments))
-        .saturating_add(form_length(&call.form))
-        .saturating_add(2)
+    callee_length(&call.callee).saturating_add(called_length(&call.arguments, &call.form))
+}
+
+// Of what the value of a function is assigned to.
+fn into_length(into: &Option<Reference>) -> usize
+    ensures { result ≡ counted (length (into_code (plain_into into.now))) }
+{
+    match into {
+        Some(r) => reference_length(r),
+        None => 0,
+    }
+}
+
+/// Of a call of a procedure or function.
+pub fn calling_length(calling: &Calling) -> usize
+    ensures { result ≡ counted (length (entered_code (plain_calling calling.now))) }
+{
+    into_length(&calling.into).saturating_add(arguments_length(&calling.arguments))
+}
+
+/// Of the initial values of an object's components.
+pub fn components_length(components: &[ValueExpression]) -> usize
+    ensures { result ≡ counted (length (components_code (plain_values components.now))) }
+{
+    let mut total: usize = 0;
+    for component in components {
+        total = total
+            .saturating_add(value_length(component))
+            .saturating_add(1);
+    }
+    total
 }
 
 /// Of the instructions of a selective accept: the guards of its alternatives, the mark, and their delays.
@@ -289,10 +336,18 @@ pub fn statement_length(s: &Statement, ways: usize) -> Result<usize, AllocError>
         Statement::RaiseAgain(_) => Ok(1),
         Statement::Block(block) => block_length(block, ways),
         Statement::Return(_) => Ok(1),
-        Statement::ProcedureCall(_, _, arguments) => {
-            exact(arguments_length(arguments).saturating_add(1))
+        Statement::ReturnValue(_, e) => exact(value_length(e).saturating_add(1)),
+        Statement::ProcedureCall(_, calling) => exact(calling_length(calling).saturating_add(1)),
+        Statement::OwnEntryCall(_, arguments, form) => {
+            exact(called_length(arguments, form).saturating_add(1))
+        }
+        Statement::OperationCall(_, _, calling) => {
+            exact(calling_length(calling).saturating_add(1))
         }
         Statement::DeclareTasks(..) => Ok(1),
+        Statement::DeclareObject(_, _, components) => {
+            exact(components_length(components).saturating_add(2))
+        }
         Statement::Activated(_) => Ok(1),
         Statement::EntryCall(call) => entry_call_length(call, ways),
         Statement::Delay(_, e) => exact(delay_length(e).saturating_add(1)),

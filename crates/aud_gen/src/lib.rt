@@ -6,6 +6,7 @@ mod entries;
 mod expressions;
 mod frames;
 mod lengths;
+mod objects;
 mod operands;
 mod program;
 mod statements;

@@ -41,5 +41,6 @@ fn after(effect: Effect, before: Counts) -> Result<Counts, AllocError>
         )?,
         targets: sum(before.targets.saturating_sub(takes.targets), leaves.targets)?,
         names: sum(before.names.saturating_sub(takes.names), leaves.names)?,
+        cells: leaves.cells || before.cells,
     })
 }

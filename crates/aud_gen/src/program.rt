@@ -2,15 +2,16 @@
 
 ghost use Rattle.std.specs.Prelude.{◌≡◌, length, map, IfOk};
 ghost use Rattle.aud_typed.specs.Ties.View.{body_in, plain_program};
-ghost use Rattle.aud_code.specs.Tabled.{counts, table_of};
-ghost use Rattle.aud_code.specs.View.{plain_code};
+ghost use Rattle.aud_code.specs.Tabled.{counts, table_of, AllDecided};
+ghost use Rattle.aud_code.specs.View.{frames_in, plain_code};
 ghost use Rattle.aud_layout.specs.Assembly.{flat_program};
 ghost use Rattle.aud_layout.specs.Opened.{BodiesCount};
-ghost use Rattle.aud_gen.specs.Opening.{body_in_type, level_in};
+ghost use Rattle.aud_gen.specs.Opening.{body_in_type, frames_before, level_in};
 ghost use Rattle.aud_gen.specs.Writes.{unit_lines, units_code, Writes};
 
 use crate::frames::frames;
 use crate::lengths::place_of_end;
+use crate::objects::write_barriers;
 use crate::operands::operands;
 use crate::writer::{Writer, Written};
 use aud_code::line::Code;
@@ -18,7 +19,7 @@ use aud_code::sound_code::{SoundCode, verify};
 use aud_layout::ways::Ways;
 use aud_meaning::state::Construct;
 use aud_scoped::ScopedProgram;
-use aud_typed::program::{Body, TaskType, Unit};
+use aud_typed::program::{Body, Entry, TaskType, Unit};
 use std::alloc::{AllocError, Global};
 
 impl Writer {
@@ -33,14 +34,23 @@ impl Writer {
     }
 }
 
-// The code of all bodies, one after the other, with its tables. Behind them stands what is run for a number that no body has.
-fn write_code(alloc: Global, units: &[Unit], types: &[TaskType]) -> Result<Code, AllocError>
-    ensures code { IfOk result (λ code. plain_code code ≡ units_code units.now) }
+// The code of all bodies, one after the other, with its tables, and the barriers. Behind the bodies stands what is run for a number
+// that none has.
+fn write_code(
+    alloc: Global,
+    units: &[Unit],
+    types: &[TaskType],
+    entries: &[Entry],
+) -> Result<Code, AllocError>
+    ensures code { IfOk result (λ code. plain_code code ≡ units_code units.now entries.now) }
     ensures frames { IfOk result (λ code. BodiesCount (plain_code code).lines code.seen.items
         (map level_in units.now) (plain_code code).starts (plain_code code).spare) }
     ensures tasks { IfOk result (λ code. code.tasks.items ≡ map body_in_type types.now) }
     ensures table { IfOk result (λ code.
         map counts code.operands.items ≡ table_of (plain_code code).lines) }
+    ensures decided { IfOk result (λ code. AllDecided code.barriers.items) }
+    ensures barriers { IfOk result (λ code.
+        frames_in code.barriers.items ≡ map (frames_before units.now) entries.now) }
 {
     let mut writer = Writer::new(alloc);
     let mut starts = Vec::new(alloc);
@@ -54,6 +64,7 @@ fn write_code(alloc: Global, units: &[Unit], types: &[TaskType]) -> Result<Code,
     let operands = operands(alloc, &lines)?;
     let seen = frames(alloc, &lines, &starts, spare, units)?;
     let tasks = task_bodies(alloc, types)?;
+    let barriers = write_barriers(alloc, entries, units)?;
     Ok(Code {
         lines,
         operands,
@@ -61,6 +72,7 @@ fn write_code(alloc: Global, units: &[Unit], types: &[TaskType]) -> Result<Code,
         starts,
         spare,
         tasks,
+        barriers,
     })
 }
 
@@ -80,7 +92,7 @@ pub fn generate(alloc: Global, program: &ScopedProgram) -> Result<SoundCode, All
     ensures { IfOk result (λ code. code ≡ flat_program (plain_program program.now)) }
 {
     let program = program.program();
-    let code = write_code(alloc, &program.units, &program.tasks)?;
+    let code = write_code(alloc, &program.units, &program.tasks, &program.entries)?;
     match verify(alloc, code) {
         Some(sound) => sound.fuse(alloc),
         None => unreachable!(),

@@ -95,13 +95,34 @@ impl Writer {
             Statement::Return(at) => {
                 self.end_statement(Ending::Return(ways.back), next, *at, out, ways.within)
             }
-            Statement::ProcedureCall(at, unit, arguments) => {
-                self.write_arguments(arguments)?;
-                self.end_statement(Ending::Call(*unit), next, *at, out, ways.within)
+            Statement::ReturnValue(at, e) => {
+                self.write_value(e)?;
+                self.end_statement(Ending::ReturnValue(ways.back), next, *at, out, ways.within)
+            }
+            Statement::ProcedureCall(at, calling) => {
+                self.write_calling(calling)?;
+                self.end_statement(Ending::Call(calling.unit), next, *at, out, ways.within)
+            }
+            Statement::OwnEntryCall(at, arguments, form) => {
+                self.write_called(arguments, form)?;
+                self.end_statement(Ending::OwnCall, next, *at, out, ways.within)
+            }
+            Statement::OperationCall(at, object, calling) => {
+                self.write_calling(calling)?;
+                let among = Among::Operation {
+                    object: *object,
+                    unit: calling.unit,
+                };
+                self.concern(among, next, *at, out, ways.within)
             }
             Statement::DeclareTasks(at, tasks) => {
                 let tasks = tasks.try_clone(self.alloc())?;
                 self.concern(Among::DeclareTasks(tasks), next, *at, out, ways.within)
+            }
+            Statement::DeclareObject(at, declaration, components) => {
+                self.write_object(components)?;
+                let among = Among::DeclareObject(*declaration);
+                self.concern(among, next, *at, out, ways.within)
             }
             Statement::Activated(at) => {
                 self.concern(Among::Activated, next, *at, out, ways.within)

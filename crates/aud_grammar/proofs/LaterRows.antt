@@ -1,15 +1,9 @@
 -- Small texts that are not let in yet are read by computing.
 use Rattle.std.proofs.Common.{refl}
-use Rattle.aud_grammar.specs.Why.LaterRows.{ProtectedObjects, AbortsAndRequeues, WrongProtected, WrongAborts}
+use Rattle.aud_grammar.specs.Why.LaterRows.{TreesOfLater, FaultsOfLater}
 
-pub protected_objects : ProtectedObjects
-protected_objects = (refl, refl, refl, refl, refl)
+pub trees_of_later : TreesOfLater
+trees_of_later = (refl, refl, refl, refl)
 
-pub aborts_and_requeues : AbortsAndRequeues
-aborts_and_requeues = (refl, refl, refl, refl)
-
-pub wrong_protected : WrongProtected
-wrong_protected = (refl, refl, refl, refl, refl, refl, refl, refl, refl, refl, refl, refl)
-
-pub wrong_aborts : WrongAborts
-wrong_aborts = (refl, refl, refl, refl, refl, refl, refl)
+pub faults_of_later : FaultsOfLater
+faults_of_later = (refl, refl, refl, refl, refl, refl, refl)

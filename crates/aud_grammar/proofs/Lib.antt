@@ -30,4 +30,5 @@ pub mod ControlRows
 pub mod ProcedureRows
 pub mod TaskRows
 pub mod RendezvousRows
+pub mod ProtectedRows
 pub mod LaterRows

@@ -13,7 +13,7 @@ abbrev behind_declarations : List ℕ
 behind_declarations = 10 ∷ []
 
 abbrev behind_declaration : List ℕ
-behind_declaration = 10 ∷ 48 ∷ 64 ∷ 100 ∷ []
+behind_declaration = 10 ∷ 48 ∷ 49 ∷ 64 ∷ 100 ∷ []
 
 abbrev behind_identifiers : List ℕ
 behind_identifiers = 84 ∷ []
@@ -43,7 +43,7 @@ abbrev behind_mode : List ℕ
 behind_mode = 100 ∷ []
 
 abbrev behind_body : List ℕ
-behind_body = 3 ∷ 10 ∷ 14 ∷ 15 ∷ 19 ∷ 20 ∷ 21 ∷ 22 ∷ 23 ∷ 24 ∷ 25 ∷ 26 ∷ 29 ∷ 34 ∷ 38 ∷ 40 ∷ 48 ∷ 50 ∷ 56 ∷ 58 ∷ 64 ∷ 70 ∷ 71 ∷ 100 ∷ 999 ∷ []
+behind_body = 3 ∷ 10 ∷ 14 ∷ 15 ∷ 19 ∷ 20 ∷ 21 ∷ 22 ∷ 23 ∷ 24 ∷ 25 ∷ 26 ∷ 29 ∷ 34 ∷ 38 ∷ 40 ∷ 48 ∷ 49 ∷ 50 ∷ 56 ∷ 58 ∷ 64 ∷ 70 ∷ 71 ∷ 100 ∷ 999 ∷ []
 
 abbrev behind_handlers : List ℕ
 behind_handlers = 21 ∷ []
@@ -126,14 +126,14 @@ behind_or_either = 21 ∷ 40 ∷ []
 abbrev behind_accept_alternative : List ℕ
 behind_accept_alternative = 19 ∷ 21 ∷ 40 ∷ []
 
-abbrev behind_protected : List ℕ
-behind_protected = []
-
 abbrev behind_private_item : List ℕ
 behind_private_item = 21 ∷ 22 ∷ 26 ∷ 48 ∷ 100 ∷ []
 
 abbrev behind_operation_body : List ℕ
 behind_operation_body = 21 ∷ 22 ∷ 26 ∷ 48 ∷ []
+
+abbrev behind_abort : List ℕ
+behind_abort = []
 
 abbrev behind_more_names : List ℕ
 behind_more_names = 80 ∷ 85 ∷ []
@@ -309,9 +309,9 @@ known TerminateFirst = (2, behind_handlers)
 known AcceptAlternative = (2, behind_accept_alternative)
 known DelayAlternative = (2, behind_or_either)
 known TerminateAlternative = (1, behind_or_either)
-known Protected = (1, behind_protected)
-known ProtectedRest = (4, behind_protected)
-known ProtectedDeclaration = (2, behind_protected)
+known Protected = (1, behind_declaration)
+known ProtectedRest = (4, behind_declaration)
+known ProtectedDeclaration = (2, behind_declaration)
 known PrivatePart = (1, behind_handlers)
 known PrivateItem = (7, behind_private_item)
 known PrivateOperation = (5, behind_private_item)
@@ -320,14 +320,14 @@ known Operation = (4, behind_entry_declaration)
 known EntryOperation = (2, behind_entry_declaration)
 known ProcedureOperation = (1, behind_entry_declaration)
 known FunctionOperation = (1, behind_entry_declaration)
-known ProtectedBody = (1, behind_protected)
+known ProtectedBody = (1, behind_declaration)
 known OperationBody = (3, behind_operation_body)
 known EntryBody = (1, behind_operation_body)
 known ProcedureBody = (1, behind_operation_body)
 known FunctionBody = (1, behind_operation_body)
-known Abort = (1, behind_protected)
+known Abort = (1, behind_abort)
 known MoreNames = (1, behind_more_names)
-known Requeue = (1, behind_protected)
+known Requeue = (1, behind_abort)
 known WithAbort = (1, behind_initial)
 
 -- how many rules may be entered before a token of the phrase is passed, its own among them

@@ -12,7 +12,7 @@ pub attributes : Attributes
 attributes = (refl, refl)
 
 pub wrong_tasks : WrongTasks
-wrong_tasks = (refl, refl, refl, refl, refl, refl, refl, refl, refl, refl, refl, refl, refl, refl, refl, refl, refl, refl, refl)
+wrong_tasks = (refl, refl, refl, refl, refl, refl, refl, refl, refl, refl, refl, refl, refl, refl, refl, refl, refl, refl)
 
 pub wrong_definitions : WrongDefinitions
 wrong_definitions = (refl, refl, refl, refl, refl, refl, refl, refl, refl, refl, refl, refl)

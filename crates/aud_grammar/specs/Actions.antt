@@ -570,7 +570,7 @@ selected at (selects e x xs statements) = m.select_accept at e x xs statements
 selected at (selects_call x behind other) = m.select_call at x behind other
 selected at _ = no_statement
 
--- what is not let in yet
+-- protected objects
 
 abbrev pub the_operation : Item → m.Operation
 the_operation (an_operation x) = x
@@ -605,6 +605,8 @@ abbrev pub protected_declared : Pos → Item → m.Declaration
 protected_declared at (a_protected i operations hidden end) = m.protected at i operations hidden end
 protected_declared at (a_protected_body i bodies end) = m.protected_body at i bodies end
 protected_declared at _ = no_declaration
+
+-- what is not let in yet
 
 abbrev pub the_names : Item → m.Names
 the_names (cons x xs) = m.more_names (the_name x) (the_names xs)

@@ -29,10 +29,10 @@ pub data Phrase : Type 0 where
   AcceptSelect Guard FirstAlternative AcceptsOnly AfterAccept SelectElse OrAny AnyAlternative : Phrase
   WithDelays OrEither Either WithTerminate OrAccept DelaysFirst NeedAccept DelaysAccept TerminateFirst : Phrase
   AcceptAlternative DelayAlternative TerminateAlternative : Phrase
-  -- no choice leads to these yet
   Protected ProtectedRest ProtectedDeclaration PrivatePart PrivateItem PrivateOperation Components : Phrase
   Operation EntryOperation ProcedureOperation FunctionOperation : Phrase
   ProtectedBody OperationBody EntryBody ProcedureBody FunctionBody : Phrase
+  -- no choice leads to these yet
   Abort MoreNames Requeue WithAbort : Phrase
 
 -- the identifiers that the grammar names (RM A.10.1, 9.6)
@@ -68,7 +68,7 @@ rule Library = W Ada ∷ T kind.Point ∷ W TextIo ∷ T kind.Semicolon ∷ []
 -- declarations lie one level deeper (RM 3.11)
 rule Declarations = L DeclarationList ∷ Down ∷ []
 rule DeclarationList = N Declaration ∷ Rep Declaration ∷ []
-rule Declaration = A (NamedDeclaration ∷ Procedure ∷ Task ∷ []) ∷ []
+rule Declaration = A (NamedDeclaration ∷ Procedure ∷ Task ∷ Protected ∷ []) ∷ []
 -- variables, constants and arrays (RM 3.3.1), and exceptions (RM 11.1)
 rule NamedDeclaration = N Identifiers ∷ T kind.Colon ∷ N DeclarationRest ∷ []
 rule Identifiers = N Identifier ∷ Rep MoreIdentifiers ∷ []
@@ -258,8 +258,7 @@ rule TerminateFirst = N TerminateAlternative ∷ N OrAccept ∷ Rep OrAccept ∷
 rule AcceptAlternative = N Accept ∷ Opt Statements ∷ []
 rule DelayAlternative = N Delay ∷ Opt Statements ∷ []
 rule TerminateAlternative = T kind.Terminate ∷ T kind.Semicolon ∷ []
--- What follows is not let in. A statement may then be Abort or Requeue, a declaration Protected.
--- RM 9.4
+-- RM 9.4: a protected object, or the body of one
 rule Protected = P kind.Protected ∷ N ProtectedRest ∷ []
 rule ProtectedRest = A (ProtectedBody ∷ ProtectedDeclaration ∷ []) ∷ []
 rule ProtectedDeclaration = N Identifier ∷ T kind.Is ∷ Rep Operation ∷ Opt PrivatePart ∷ T kind.End ∷ Opt Identifier ∷ T kind.Semicolon ∷ []
@@ -276,6 +275,7 @@ rule OperationBody = A (EntryBody ∷ ProcedureBody ∷ FunctionBody ∷ []) ∷
 rule EntryBody = P kind.Entry ∷ N Identifier ∷ Opt Formals ∷ T kind.When ∷ N Expression ∷ T kind.Is ∷ Opt Declarations ∷ N Body ∷ []
 rule ProcedureBody = P kind.Procedure ∷ N Identifier ∷ Opt Formals ∷ T kind.Is ∷ Opt Declarations ∷ N Body ∷ []
 rule FunctionBody = P kind.Function ∷ N Identifier ∷ Opt Formals ∷ T kind.Return ∷ N Identifier ∷ T kind.Is ∷ Opt Declarations ∷ N Body ∷ []
+-- What follows is not let in. A statement may then be Abort or Requeue.
 -- RM 9.8
 rule Abort = P kind.Abort ∷ N Name ∷ Rep MoreNames ∷ T kind.Semicolon ∷ []
 rule MoreNames = T kind.Comma ∷ N Name ∷ []

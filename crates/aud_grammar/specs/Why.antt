@@ -5,6 +5,7 @@ pub mod Derives
 pub mod LaterRows
 pub mod Laws
 pub mod ProcedureRows
+pub mod ProtectedRows
 pub mod RendezvousRows
 pub mod Rows
 pub mod Spells

@@ -6,6 +6,7 @@ ghost use Rattle.aud_grammar.specs.Why.ControlRows as control;
 ghost use Rattle.aud_grammar.specs.Why.ProcedureRows as procedures;
 ghost use Rattle.aud_grammar.specs.Why.TaskRows as tasks;
 ghost use Rattle.aud_grammar.specs.Why.RendezvousRows as rendezvous;
+ghost use Rattle.aud_grammar.specs.Why.ProtectedRows as protected;
 ghost use Rattle.aud_grammar.specs.Why.LaterRows as later;
 
 /// The tree that is read is the tree that the tokens spell.
@@ -133,8 +134,23 @@ pub fn levels_of_rendezvous()
     ensures { rendezvous.LevelsOfRendezvous }
 {}
 
+/// The trees of small texts with protected objects and their bodies.
+pub fn trees_of_protected()
+    ensures { protected.TreesOfProtected }
+{}
+
+/// The token at which such texts go wrong.
+pub fn faults_of_protected()
+    ensures { protected.FaultsOfProtected }
+{}
+
+/// The token at which such texts open a level too many.
+pub fn levels_of_protected()
+    ensures { protected.LevelsOfProtected }
+{}
+
 /// The trees of small texts that are not let in yet, each as its phrase: abort and requeue
-/// statements, protected objects.
+/// statements.
 pub fn trees_of_later()
     ensures { later.TreesOfLater }
 {}

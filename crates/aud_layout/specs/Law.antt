@@ -19,7 +19,7 @@ use Rattle.aud_layout.specs.Layout.{Code, code_of, code_controls}
 use Rattle.aud_layout.specs.Shows.{UnitsAt, ShowsControl}
 use Rattle.aud_layout.specs.Assembly.{offset, flat_program}
 use Rattle.aud_layout.specs.Activations.{ActivatesInParts}
-use Rattle.aud_layout.specs.Opened.{task_bodies, CountsFrames}
+use Rattle.aud_layout.specs.Opened.{task_bodies, barrier_frames, CountsFrames}
 
 -- the layout, one line a step: where each body stands where it begins, places agree with statements
 abbrev pub LayoutAgreementLaw : Type 0
@@ -104,6 +104,7 @@ abbrev pub TabledLaw : Type 0
 TabledLaw = (program : Program) → IsTabled (flat_program program).lines (table_of (flat_program program).lines)
 
 -- a table that counts the frames of the code of a scoped program fits it: each variable that is named is of a frame that is open there,
--- and each way leads to where those frames are open that are written there
+-- or of an object whose cells have begun by the table of operands, and each way leads to where those frames are open that are written there
 abbrev pub SeenTabledLaw : Type 0
-SeenTabledLaw = (program : Program) (seen : List ℕ) → IsScoped program → DeclaresInParts program → CountsFrames program seen → IsSeen (flat_program program) (task_bodies program) seen
+SeenTabledLaw =
+    (program : Program) (seen : List ℕ) → IsScoped program → DeclaresInParts program → CountsFrames program seen → IsSeen (flat_program program) (table_of (flat_program program).lines) (task_bodies program) (barrier_frames program) seen

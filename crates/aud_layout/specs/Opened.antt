@@ -1,7 +1,8 @@
 -- The table of frames that belongs to code: within a construct there is one more than where the step stands that opened its frame, and
 -- directly in a body there are its own and those that it sees.
 use Rattle.std.specs.Prelude.{◌≡◌, ◌<◌, ◌≤◌, ℕ, suc, List, [], ◌∷◌, length, map, Option, Some, None, slice_get, slice_index_or}
-use Rattle.aud_typed.specs.Tree.{UnitPlan, TaskPlan, Program}
+use Rattle.aud_typed.specs.Tree.{UnitPlan, TaskPlan, EntryPlan, Plan, Program}
+use Rattle.aud_meaning.specs.Parts.{unit_of}
 use Rattle.aud_code.specs.Flat.{EndLine, FlatLine}
 use Rattle.aud_code.specs.Frames.{found}
 use Rattle.aud_layout.specs.Assembly.{flat_program}
@@ -44,6 +45,13 @@ body_of t = t.unit
 -- the body of each task type
 abbrev pub task_bodies : Program → List ℕ
 task_bodies program = map body_of program.plan.tasks
+
+-- how many frames each barrier sees, by its entry's number: those that its body sees besides its own
+abbrev pub frames_before : Plan → EntryPlan → ℕ
+frames_before plan e = (unit_of plan e.unit).level
+
+abbrev pub barrier_frames : Program → List ℕ
+barrier_frames program = map (frames_before program.plan) program.plan.entries
 
 -- a table counts the frames of a program's code
 abbrev pub CountsFrames : Program → List ℕ → Type 0

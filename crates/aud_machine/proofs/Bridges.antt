@@ -8,6 +8,7 @@ use Rattle.aud_typed.specs.declared.program.Exception.{Exception}
 use Rattle.aud_typed.specs.declared.program.Program.{Program}
 use Rattle.aud_typed.specs.Ties.View.{plain_program}
 use Rattle.aud_typed.specs.Tree as tree
+use Rattle.aud_typed.specs.Why.Scoped.{HaveDistinctEntries}
 use Rattle.aud_meaning.specs.declared.state.State.{State}
 use Rattle.aud_meaning.specs.declared.state.Move.{Move}
 use Rattle.aud_meaning.specs.Configuration.{Own, Shared, TaskAt, All, Configuration}
@@ -37,6 +38,7 @@ use Rattle.aud_tasks.proofs.Running.Taking.{within_kept}
 use Rattle.aud_machine.specs.Shown.{Shown}
 use Rattle.aud_machine.specs.Shows.{Shows, Did, RunsFrom}
 use Rattle.aud_machine.specs.Shows as shown
+use Rattle.aud_machine.proofs.Counted.{at_most_twice}
 
 -- What is seen of all tasks are their own parts.
 pub owns_seen : {C : Type 0} (plan : tree.Plan) (k : Controls C) (i : ℕ) (ts : List (TaskAt C)) (os : List Own) (shared : Shared) → owns (seen_from plan k i ts os shared) ≡ owns ts
@@ -202,10 +204,13 @@ module _ (p : Program) (lines : Flat) (is : lines ≡ flat_program (plain_progra
 abbrev Few : Flat → Option Ran → Type 0
 Few lines taken = IfSome taken (λ ran. ran.ticks ≤ 2 * size lines)
 
-pub few_taken : (plan : tree.Plan) (lines : Flat) (limits : Limits) (o : Option Move) (old new : All Spot) (taken : Option Ran) → Takes plan lines limits o old new taken → Few lines taken
-few_taken plan lines limits None old new None told = tt
-few_taken plan lines limits None old new (Some ran) told = absurd (cc (told.0))
-few_taken plan lines limits (Some m) old new taken told = subst (λ (r : Option Ran). Few lines r) (sym told.1) told.2.few
+pub few_taken : (plan : tree.Plan) (lines : Flat) (limits : Limits) (o : Option Move) (old new : All Spot) (taken : Option Ran) → HaveDistinctEntries plan.objects → Takes plan lines limits o old new taken → Few lines taken
+few_taken plan lines limits None old new None distinct told = tt
+few_taken plan lines limits None old new (Some ran) distinct told = absurd (cc (told.0))
+few_taken plan lines limits (Some m) old new taken distinct told =
+    let twice = at_most_twice plan lines distinct in
+    let few = told.2.few in
+    subst (λ (r : Option Ran). Few lines r) (sym told.1) (omega (arith, few, twice))
 
 -- The limits hold of what it does.
 module _ (plan : tree.Plan) (lines : Flat) (limits : Limits) where

@@ -1,3 +1,4 @@
 mod Bridges
+mod Counted
 mod Views
 pub mod Sent

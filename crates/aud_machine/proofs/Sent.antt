@@ -5,6 +5,9 @@ use Rattle.std.proofs.Crossing.{crosses}
 use Rattle.aud_typed.specs.contracts.program.IntegerExpression as integer
 use Rattle.aud_typed.specs.contracts.program.BooleanExpression as boolean
 use Rattle.aud_typed.specs.contracts.program.TextExpression as words
+use Rattle.aud_typed.specs.contracts.program.ValueExpression as value
+use Rattle.aud_typed.specs.contracts.program.Argument as argument
+use Rattle.aud_typed.specs.contracts.program.Calling as calling
 use Rattle.aud_typed.specs.contracts.program.Body as body
 use Rattle.aud_typed.specs.contracts.program.Program as program
 use Rattle.aud_machine.specs.contracts.machine.Machine as machine
@@ -34,17 +37,35 @@ text_send = search (crosses, integer_send, integer_field, boolean_send, boolean_
 text_field : IsSend (words.the_field).row
 text_field = search (crosses, integer_send, integer_field, boolean_send, boolean_field, integers, booleans, texts, sendable) depth 60 fits 20000
 
+value_send : IsSend value.the_row
+value_send = search (crosses, integer_send, integer_field, boolean_send, boolean_field, sendable) depth 60 fits 20000
+
+value_field : IsSend (value.the_field).row
+value_field = search (crosses, integer_send, integer_field, boolean_send, boolean_field, sendable) depth 60 fits 20000
+
+argument_send : IsSend argument.the_row
+argument_send = search (crosses, integer_send, integer_field, boolean_send, boolean_field, value_send, value_field, sendable) depth 60 fits 20000
+
+argument_field : IsSend (argument.the_field).row
+argument_field = search (crosses, integer_send, integer_field, boolean_send, boolean_field, value_send, value_field, sendable) depth 60 fits 20000
+
+calling_send : IsSend calling.the_row
+calling_send = search (crosses, integer_send, integer_field, boolean_send, boolean_field, argument_send, argument_field, sendable) depth 60 fits 20000
+
+calling_field : IsSend (calling.the_field).row
+calling_field = search (crosses, integer_send, integer_field, boolean_send, boolean_field, argument_send, argument_field, sendable) depth 60 fits 20000
+
 body_send : IsSend body.the_row
-body_send = search (crosses, integer_send, integer_field, boolean_send, boolean_field, text_send, text_field, integers, booleans, texts, statements, sendable) depth 60 fits 20000
+body_send = search (crosses, integer_send, integer_field, boolean_send, boolean_field, text_send, text_field, value_send, value_field, argument_send, argument_field, calling_send, calling_field, statements, sendable) depth 60 fits 20000
 
 body_field : IsSend (body.the_field).row
-body_field = search (crosses, integer_send, integer_field, boolean_send, boolean_field, text_send, text_field, integers, booleans, texts, statements, sendable) depth 60 fits 20000
+body_field = search (crosses, integer_send, integer_field, boolean_send, boolean_field, text_send, text_field, value_send, value_field, argument_send, argument_field, calling_send, calling_field, statements, sendable) depth 60 fits 20000
 
 program_send : IsSend program.the_row
-program_send = search (crosses, body_send, body_field, sendable) depth 60 fits 20000
+program_send = search (crosses, boolean_send, boolean_field, body_send, body_field, sendable) depth 60 fits 20000
 
 program_field : IsSend (program.the_field).row
-program_field = search (crosses, body_send, body_field, program_send, sendable) depth 60 fits 20000
+program_field = search (crosses, boolean_send, boolean_field, body_send, body_field, program_send, sendable) depth 60 fits 20000
 
 parts : IsSend inside.the_row
 parts = search (crosses, program_send, program_field, code_send, state_send, sendable) depth 60 fits 20000

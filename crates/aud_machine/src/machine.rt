@@ -54,6 +54,7 @@ impl Drop for Machine {
 impl Model for Machine {
     ghost use Rattle.std.specs.Prelude.{◌≡◌, ◌≤◌, false};
     ghost use Rattle.aud_typed.specs.Ties.View.{plain_program};
+    ghost use Rattle.aud_typed.specs.Why.Scoped.{HaveDistinctEntries};
     ghost use Rattle.aud_layout.specs.Assembly.{flat_program};
     ghost use Rattle.aud_meaning.specs.Why.Limits.{IsWithin};
     ghost use Rattle.aud_code.specs.Places.{Spot};
@@ -61,10 +62,11 @@ impl Model for Machine {
     ghost use Rattle.aud_machine.specs.Shown.{Shown};
     ghost use Rattle.std.specs.Coded.{codes};
     ghost use Rattle.aud_typed.specs.contracts.program.Body as body;
+    ghost use Rattle.aud_typed.specs.contracts.program.BooleanExpression as boolean;
 
     ghost Value = { Shown };
 
-    ghost coded = { Prim.hlevel (codes, body.the_row.coded) };
+    ghost coded = { Prim.hlevel (codes, body.the_row.coded, boolean.the_row.coded) };
 
     ghost view = { λ m. record {
       program = m.program;
@@ -75,6 +77,7 @@ impl Model for Machine {
     } };
 
     ghost invariant = { λ m. (m.code ≡ flat_program (plain_program m.program))
+        × HaveDistinctEntries (plain_program m.program).plan.objects
         × (m.spent ≡ false → AreSpots m.code.lines m.state.tasks)
         × (m.spent ≡ false → 1 ≤ m.limits.tasks → IsWithin Spot m.limits m.state) };
 }
@@ -91,10 +94,9 @@ impl Machine {
         ensures limits { IfOk result (λ m. m.limits ≡ limits) }
     {
         let code = generate(alloc, &program)?;
-        let program = program.into_program();
-        let state = opened(alloc, &code, &program, limits)?;
+        let state = opened(alloc, &code, program.program(), limits)?;
         Ok(Machine {
-            program,
+            program: program.into_program(),
             code,
             limits,
             state,

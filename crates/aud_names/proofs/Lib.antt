@@ -1,3 +1,4 @@
 pub mod First
+pub mod Firsts
 pub mod Hiding
 pub mod Waiting

@@ -1,4 +1,4 @@
--- Bounds of arrays, and what declarations of variables, constants, arrays and tasks declare (RM 3.3.1, 3.6, 9.1).
+-- Bounds of arrays, and what declarations of variables, constants, arrays, tasks and protected objects declare (RM 3.3.1, 3.6, 9.1, 9.4).
 use Rattle.std.specs.Prelude.{ℕ, ◌+◌, ℤ, pos, ◌-ℤ◌, nat_abs, int_lt, Bool, true, false, List, [], Option, Some, None, Result, Ok, Err, if◌then◌else◌}
 use Rattle.aud_text.specs.Integer.{negative}
 use Rattle.aud_text.specs.declared.raise.Raise.{Raise}
@@ -11,7 +11,8 @@ use Rattle.aud_names.specs.declared.names.TaskArray.{TaskArray}
 use Rattle.aud_names.specs.declared.names.Meaning.{Meaning}
 use Rattle.aud_names.specs.declared.names.Meaning.TheVariants as meaning
 use Rattle.aud_names.specs.declared.array.Kind.{Kind}
-use Rattle.aud_names.specs.declared.array.Kind.TheVariants.{Scalar, Row, Task, TaskRow}
+use Rattle.aud_names.specs.declared.array.Kind.TheVariants.{Scalar, Row, Task, TaskRow, Protected}
+use Rattle.aud_names.specs.declared.names.Access.TheVariants.{Outside}
 use Rattle.aud_names.specs.Rules.{number_too_large}
 
 abbrev pub unless_raised : Result ℤ Raise → Option ℤ
@@ -56,10 +57,11 @@ task_row_between low high task_type = TaskRow (record { low = low; high = high; 
 
 -- what is declared at a level from a cell on
 abbrev pub new_meaning : Kind → ℕ → ℕ → Meaning
-new_meaning (Scalar o) level index = meaning.Object (record { variable = record { level = level; index = index }; subtype = o.subtype; constant = o.constant })
+new_meaning (Scalar o) level index = meaning.Object (record { variable = record { level = level; index = index }; subtype = o.subtype; constant = o.constant; locked = false })
 new_meaning (Row a) level index = meaning.Array (record { first = record { level = level; index = index }; low = a.low; high = a.high; subtype = a.subtype })
 new_meaning (Task task_type) level index = meaning.Task (record { variable = record { level = level; index = index }; task_type = task_type })
 new_meaning (TaskRow a) level index = meaning.TaskArray (record { first = record { level = level; index = index }; low = a.low; high = a.high; task_type = a.task_type })
+new_meaning (Protected object) level index = meaning.Protected (record { variable = record { level = level; index = index }; object = object; access = Outside })
 
 -- how many cells it takes
 abbrev pub cells_of : Kind → ℕ
@@ -67,3 +69,4 @@ cells_of (Scalar o) = 1
 cells_of (Row a) = length_between a.low a.high
 cells_of (Task task_type) = 1
 cells_of (TaskRow a) = length_between a.low a.high
+cells_of (Protected object) = 1

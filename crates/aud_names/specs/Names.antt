@@ -7,13 +7,18 @@ use Rattle.aud_syntax.specs.declared.tree.Ident.{Ident}
 use Rattle.aud_text.specs.declared.raise.Raise.TheVariants.{Constraint, Program, Storage, Tasking}
 use Rattle.aud_typed.specs.declared.program.Exception.TheVariants.{Predefined}
 use Rattle.aud_names.specs.declared.awaited.Awaited.{Awaited}
+use Rattle.aud_names.specs.declared.awaited.AwaitedObject.{AwaitedObject}
 use Rattle.aud_names.specs.declared.entries.EntryName.{EntryName}
 use Rattle.aud_names.specs.declared.names.Meaning.{Meaning}
 use Rattle.aud_names.specs.declared.names.Meaning.TheVariants.{ScalarType, Literal, Exception, Builtin, Procedure, Task, Entry}
 use Rattle.aud_names.specs.declared.names.Task as named_task
 use Rattle.aud_names.specs.declared.names.Entry as named_entry
 use Rattle.aud_names.specs.declared.names.Owner.{Owner}
+use Rattle.aud_names.specs.declared.names.Owner.TheVariants as owner
 use Rattle.aud_names.specs.declared.names.Owner.TheVariants.{Single}
+use Rattle.aud_names.specs.declared.names.Access.{Access}
+use Rattle.aud_names.specs.declared.names.Access.TheVariants.{Outside, Inside, InFunction}
+use Rattle.aud_names.specs.declared.parts.ObjectPart.{ObjectPart}
 use Rattle.aud_names.specs.declared.names.Builtin.TheVariants.{Put, PutLine, NewLine}
 use Rattle.aud_typed.specs.declared.program.Variable.{Variable}
 use Rattle.aud_typed.specs.declared.program.Subtype.TheVariants.{Integer, Natural, Positive, Boolean}
@@ -23,20 +28,22 @@ abbrev pub Symbol : Type 0
 Symbol = List ℕ × Meaning
 
 -- a region of declarations (RM 8.1): its names in the order of their declarations, how many frames are further out than its own, the
--- cells and names of variables, constants and tasks in that, the tasks whose bodies are still to come, the entries of the tasks that it
--- declares, and where it is directly in a task's body the cell with that task's own number
+-- cells and names of variables, constants, tasks and objects in that, the tasks and the objects whose bodies are still to come, the entries
+-- of the tasks that it declares, what its objects declare, and where it is directly in a task's body the cell with that task's own number
 pub record Region : Type 0 where
   pub symbols : List Symbol
   pub level : ℕ
   pub cells : ℕ
   pub names : ℕ
   pub awaited : List Awaited
+  pub objects : List AwaitedObject
   pub entries : List EntryName
+  pub parts : List ObjectPart
   pub own : Option Variable
 
 -- a region with no names yet, at a level, which is in no task's body
 abbrev pub empty_region : ℕ → Region
-empty_region level = record { symbols = []; level = level; cells = 0; names = 0; awaited = []; entries = []; own = None }
+empty_region level = record { symbols = []; level = level; cells = 0; names = 0; awaited = []; objects = []; entries = []; parts = []; own = None }
 
 -- what a region declares a name to be: the first symbol of that name decides
 abbrev pub named_in : List ℕ → List Symbol → Option Meaning
@@ -159,7 +166,7 @@ own_task level task_type = record { variable = own_cell level; task_type = task_
 
 -- the region of a task's body at a level: the cell with its own number has no name
 abbrev pub own_region : ℕ → ℕ → Region
-own_region level task_type = record { symbols = ([], Task (own_task level task_type)) ∷ []; level = level; cells = 1; names = 1; awaited = []; entries = []; own = Some (own_cell level) }
+own_region level task_type = record { symbols = ([], Task (own_task level task_type)) ∷ []; level = level; cells = 1; names = 1; awaited = []; objects = []; entries = []; parts = []; own = Some (own_cell level) }
 
 -- an entry in the region of its task's body (RM 8.1, 9.5.2); a name that this has already stays what it was
 abbrev pub with_entry : List ℕ → ℕ → Region → Region
@@ -194,6 +201,11 @@ abbrev pub is_in_own_body : List ℕ → Variable → List ℕ → List Region �
 is_in_own_body task v name [] = false
 is_in_own_body task v name (r ∷ rs) = if has_cell v r then not (is_declared task r.symbols) && is_declared name r.symbols else is_in_own_body task v name rs
 
+-- what the body of an object declares a name to be, whose frame has this cell
+abbrev pub named_inside : List ℕ → Variable → List Region → Option Meaning
+named_inside name v [] = None
+named_inside name v (r ∷ rs) = if has_cell v r then named_in name r.symbols else named_inside name v rs
+
 -- Entries (RM 9.5.2).
 
 -- the number of an entry of a type of tasks: the first one of that name
@@ -217,3 +229,23 @@ is_cell_of _ _ = false
 -- number in that cell
 abbrev pub is_own : named_entry.Entry → Place → Bool
 is_own e place = is_cell_of e.owner (innermost place).own
+
+-- an object is named in its own body
+abbrev pub is_inside : Access → Bool
+is_inside Outside = false
+is_inside Inside = true
+is_inside InFunction = true
+
+-- and in the body of one of its functions, where it may not be changed (RM 9.5.1(2))
+abbrev pub is_in_function : Access → Bool
+is_in_function Outside = false
+is_in_function Inside = false
+is_in_function InFunction = true
+
+abbrev pub is_around : Owner → Bool
+is_around (owner.Object x) = is_inside x.access
+is_around _ = false
+
+-- whether the calls of an entry may be counted at a place (RM 9.9(4)): of a protected one everywhere in the object's body
+abbrev pub is_countable : named_entry.Entry → Place → Bool
+is_countable e place = is_around e.owner || is_own e place

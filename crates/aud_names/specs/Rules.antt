@@ -2,7 +2,7 @@
 use Rattle.std.specs.Prelude.{Bool, true, false, not, ◌&&◌, List, [], ◌∷◌, Option, Some, None, if◌then◌else◌, ℕ}
 use Rattle.std.specs.Str.{bytes_eq}
 use Rattle.aud_text.specs.declared.place.Pos.{Pos}
-use Rattle.aud_text.specs.declared.refusal.Refusal.TheVariants.{NameNotDeclared, DeclaredTwice, WrongKindOfName, WrongType, WrongNumberOfArguments, NotAVariable, WrongNameAtEnd, NoMatchingBody, AcceptOrCountOutOfPlace, FormalsDoNotConform, ExitWithoutLoop, ReturnOutOfPlace, RaiseWithoutHandler, BadHandlerChoice, NumberTooLarge, TooManyDecimals, NotAnEntry}
+use Rattle.aud_text.specs.declared.refusal.Refusal.TheVariants.{NameNotDeclared, DeclaredTwice, WrongKindOfName, WrongType, WrongNumberOfArguments, NotAVariable, WrongNameAtEnd, NoMatchingBody, AcceptOrCountOutOfPlace, FormalsDoNotConform, ExitWithoutLoop, ReturnOutOfPlace, RaiseWithoutHandler, BadHandlerChoice, FunctionCallOutOfPlace, NumberTooLarge, TooManyDecimals, ChangeWithinFunction, ParameterInBarrier, NotAnEntry}
 use Rattle.aud_syntax.specs.declared.tree.Ident.{Ident}
 use Rattle.aud_syntax.specs.declared.tree.Mode.{Mode}
 use Rattle.aud_syntax.specs.declared.tree.Mode.TheVariants.{Unstated, In, Out, InOut}
@@ -63,7 +63,7 @@ wrong_number_of_arguments at = record { at = at; refusal = WrongNumberOfArgument
 abbrev pub not_a_variable : Pos → List Fault
 not_a_variable at = record { at = at; refusal = NotAVariable } ∷ []
 
--- the name after `end` is the procedure's or task's (RM 6.3(4), 9.1(7)); at the name
+-- the name after `end` is the construct's (RM 6.3(4), 9.1(7), 9.4, 9.5.2(6)); at the name
 abbrev pub right_name_at_end : List ℕ → Option Ident → List Fault
 right_name_at_end name None = []
 right_name_at_end name (Some last) = unless (bytes_eq last.name name) (record { at = last.at; refusal = WrongNameAtEnd })
@@ -75,12 +75,13 @@ right_label_at_end None (Some last) semicolon = record { at = last.at; refusal =
 right_label_at_end (Some label) None semicolon = record { at = semicolon; refusal = WrongNameAtEnd } ∷ []
 right_label_at_end (Some label) (Some last) semicolon = right_name_at_end label.name (Some last)
 
--- a task has one body, later in the same declarative part, and a body has its declaration (RM 3.11.1); at the declared name, or the body's
+-- a task or protected object has one body, later in the same declarative part, an operation one in its object's, and a body has its
+-- declaration (RM 3.11.1); at the declared name, or the body's
 abbrev pub no_matching_body : Pos → List Fault
 no_matching_body at = record { at = at; refusal = NoMatchingBody } ∷ []
 
--- an accept and a Count of an entry stand directly in the body of the task whose entry it is (RM 9.5.2(14), 9.9(4)), and an accept in no
--- accept of the same entry (RM 9.5.2(15)); at the entry's name
+-- an accept and a Count of an entry stand directly in the body of the task whose entry it is (RM 9.5.2(14), 9.9(4)), a Count of a
+-- protected entry in the object's body, and an accept in no accept of the same entry (RM 9.5.2(15)); at the entry's name
 abbrev pub accept_or_count_in_place : Bool → Pos → List Fault
 accept_or_count_in_place good at = unless good (record { at = at; refusal = AcceptOrCountOutOfPlace })
 
@@ -115,7 +116,7 @@ conform [] [] = true
 conform (p ∷ ps) (q ∷ qs) = (bytes_eq p.name q.name && same_parameter p.parameter q.parameter) && conform ps qs
 conform _ _ = false
 
--- the formals of an accept conform to those of its entry (RM 9.5.2(14)); at its name
+-- the formals of an accept or a body conform to those of its declaration (RM 6.3.1, 9.5.2(14)); at its name
 abbrev pub formals_conform : Bool → Pos → List Fault
 formals_conform good at = unless good (record { at = at; refusal = FormalsDoNotConform })
 
@@ -142,6 +143,18 @@ number_too_large at = record { at = at; refusal = NumberTooLarge } ∷ []
 -- a real number has at most three decimals (profile); at the number
 abbrev pub too_many_decimals : Pos → List Fault
 too_many_decimals at = record { at = at; refusal = TooManyDecimals } ∷ []
+
+-- a function's call is the whole right side of an assignment (profile); at the name
+abbrev pub function_call_out_of_place : Pos → List Fault
+function_call_out_of_place at = record { at = at; refusal = FunctionCallOutOfPlace } ∷ []
+
+-- a protected function's body changes no component of its object, and calls no procedure or entry of it (RM 9.5.1(2)); at the name
+abbrev pub no_change_within_function : Bool → Pos → List Fault
+no_change_within_function good at = unless good (record { at = at; refusal = ChangeWithinFunction })
+
+-- a barrier names no formal of its entry (RM 9.5.2(18)); at the name
+abbrev pub parameter_in_barrier : Pos → List Fault
+parameter_in_barrier at = record { at = at; refusal = ParameterInBarrier } ∷ []
 
 -- what a timed or conditional call calls is an entry (RM 9.7.2, 9.7.3); at the name
 abbrev pub not_an_entry : Pos → List Fault

@@ -1,10 +1,10 @@
-// Bounds of arrays, and what declarations of variables, constants, arrays and tasks declare.
+// Bounds of arrays, and what declarations of variables, constants, arrays, tasks and protected objects declare.
 
 ghost use Rattle.std.specs.Prelude.{◌≡◌};
 ghost use Rattle.aud_fault.specs.Least.{noted};
 ghost use Rattle.aud_names.specs.Arrays.{with_sign, bound_value, bound_faults, or_zero, length_between, array_at, task_array_at, row_between, new_meaning, cells_of};
 
-use crate::names::{Array, Meaning, Object, Task, TaskArray};
+use crate::names::{Access, Array, Instance, Meaning, Object, Task, TaskArray};
 use crate::rules::number_too_large;
 use aud_fault::fault::Least;
 use aud_syntax::tree::Bound;
@@ -45,6 +45,8 @@ pub enum Kind {
     Task(usize),
     /// Arrays of tasks.
     TaskRow(TaskRow),
+    /// The protected object of this number (RM 9.4).
+    Protected(usize),
 }
 
 fn with_sign(negative: bool, value: Option<Int32>) -> Option<Int32>
@@ -138,6 +140,7 @@ pub fn new_meaning(kind: Kind, level: usize, index: usize) -> Meaning
             variable,
             subtype: scalar.subtype,
             constant: scalar.constant,
+            locked: false,
         }),
         Kind::Row(row) => Meaning::Array(Array {
             first: variable,
@@ -155,6 +158,11 @@ pub fn new_meaning(kind: Kind, level: usize, index: usize) -> Meaning
             high: row.high,
             task_type: row.task_type,
         }),
+        Kind::Protected(object) => Meaning::Protected(Instance {
+            variable,
+            object,
+            access: Access::Outside,
+        }),
     }
 }
 
@@ -163,7 +171,7 @@ pub fn cells_of(kind: Kind) -> usize
     ensures { result ≡ cells_of kind }
 {
     match kind {
-        Kind::Scalar(_) | Kind::Task(_) => 1,
+        Kind::Scalar(_) | Kind::Task(_) | Kind::Protected(_) => 1,
         Kind::Row(row) => length_between(row.low, row.high),
         Kind::TaskRow(row) => length_between(row.low, row.high),
     }

@@ -1,7 +1,8 @@
-// Tasks that wait for their bodies.
+// Tasks, protected objects and their operations that wait for their bodies.
 
 ghost use Rattle.std.specs.Prelude.{◌≡◌, position};
 ghost use Rattle.std.specs.Str.{bytes_eq};
+ghost use Rattle.aud_names.specs.Objects.{is_object, is_unit};
 
 use aud_text::name::Name;
 use aud_text::place::Pos;
@@ -15,9 +16,38 @@ pub struct Awaited {
     pub at: Pos,
 }
 
+/// A protected object whose body is still to come: its name, its number, and where the name stands.
+#[derive(Drop)]
+pub struct AwaitedObject {
+    pub name: Name,
+    pub object: usize,
+    pub at: Pos,
+}
+
+/// An operation or entry of a protected object whose body is still to come: the number of its unit, and where its name stands.
+#[derive(Clone, Copy, PartialEq, Eq)]
+pub struct AwaitedPart {
+    pub unit: usize,
+    pub at: Pos,
+}
+
 /// Which of these has the name, if one has.
 pub fn index_of(awaited: &[Awaited], name: &Name) -> Option<usize>
     ensures { result ≡ position (λ a. bytes_eq name.now a.name) awaited.now }
 {
     awaited.iter().position(|a| *name == a.name)
+}
+
+/// Which of these objects has the name, if one has.
+pub fn index_of_object(awaited: &[AwaitedObject], name: &Name) -> Option<usize>
+    ensures { result ≡ position (is_object name.now) awaited.now }
+{
+    awaited.iter().position(|a| *name == a.name)
+}
+
+/// Which of these has the unit, if one has.
+pub fn index_of_unit(awaited: &[AwaitedPart], unit: usize) -> Option<usize>
+    ensures { result ≡ position (is_unit unit) awaited.now }
+{
+    awaited.iter().position(|a| unit == a.unit)
 }

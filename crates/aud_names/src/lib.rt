@@ -8,6 +8,8 @@ pub mod entries;
 mod hidden;
 pub mod laws;
 pub mod names;
+pub mod objects;
+pub mod parts;
 pub mod resolution;
 pub mod rules;
 pub mod table;

@@ -2,13 +2,15 @@
 
 ghost use Rattle.std.specs.Prelude.{◌≡◌, ◌∷◌, ◌&&◌, not, [], IfOk, OnOk};
 ghost use Rattle.std.specs.Option.{option_copied};
-ghost use Rattle.aud_names.specs.Names.{Place as Plain, empty_region, named_in, predefined, declared, hiding, is_hidden, is_taken, own_hidden, with_own, visible, library, outermost, innermost, body_frame, next_frame, awaited_task, body_come, own_task, own_region, with_entry, with_entries, task_region, running, has_cell, is_declared, is_in_own_body, entry_named, same_cell, is_cell_of, is_own};
+ghost use Rattle.aud_names.specs.Names.{Place as Plain, empty_region, named_in, predefined, declared, hiding, is_hidden, is_taken, own_hidden, with_own, visible, library, outermost, innermost, body_frame, next_frame, awaited_task, body_come, own_task, own_region, with_entry, with_entries, task_region, running, has_cell, is_declared, is_in_own_body, named_inside, entry_named, same_cell, is_cell_of, is_own, is_inside, is_in_function, is_around, is_countable};
+ghost use Rattle.aud_names.specs.Objects.{awaited_object, object_come, part_named};
 ghost use Rattle.aud_names.specs.Ties.Regions.{plain_region, plain_regions, plain_place, names_in, hidden_names};
 
-use crate::awaited::{Awaited, index_of};
+use crate::awaited::{Awaited, AwaitedObject, index_of, index_of_object};
 use crate::behind::{Made, both};
 use crate::entries::{EntryName, entry_in};
 use crate::hidden::Hidden;
+use crate::parts::{ObjectPart, Part, part_in};
 use crate::table::listed;
 use aud_syntax::tree::{Ident, Identifiers, Mode};
 use aud_text::name::Name;
@@ -37,14 +39,21 @@ pub enum Meaning {
     Task(Task),
     TaskArray(TaskArray),
     Entry(Entry),
+    /// RM 9.4.
+    Protected(Instance),
+    Operation(Operation),
+    /// A formal, seen from its entry's barrier (RM 9.5.2(18)).
+    Barred,
 }
 
-/// A variable or constant (RM 3.3.1): its subtype, which is not known where its declaration is faulty.
+/// A variable, constant or component (RM 3.3.1, 9.4): its subtype, which is not known where its declaration is faulty, and
+/// whether it is a component in the body of one of its object's functions, which may not change it (RM 9.5.1(2)).
 #[derive(Clone, Copy, PartialEq, Eq)]
 pub struct Object {
     pub variable: Variable,
     pub subtype: Option<Subtype>,
     pub constant: bool,
+    pub locked: bool,
 }
 
 /// An array (RM 3.6): the cell of its first element, its bounds, and the subtype of its elements, which is not
@@ -80,13 +89,46 @@ pub struct Entry {
     pub owner: Owner,
 }
 
-/// The task of an entry: the one behind whose name and a point it stands, or the one that runs the body where it stands by itself.
+/// The task of an entry: the one behind whose name and a point it stands, or the one that runs the body where it stands by itself;
+/// or the protected object.
 #[derive(Clone, Copy, PartialEq, Eq)]
 pub enum Owner {
     /// The task with the number in this cell.
     Single(Variable),
     /// An element of an array; its index are the arguments of the name's first part.
     Element(TaskArray),
+    Object(Instance),
+}
+
+/// From where an object is named: from outside its body, or from within, maybe in the body of one of its functions (RM 9.5(3, 4)).
+#[derive(Clone, Copy, PartialEq, Eq)]
+pub enum Access {
+    Outside,
+    Inside,
+    InFunction,
+}
+
+/// A protected object where it is named: the cell with its number, and the number of its declaration (RM 9.4).
+#[derive(Clone, Copy, PartialEq, Eq)]
+pub struct Instance {
+    pub variable: Variable,
+    pub object: usize,
+    pub access: Access,
+}
+
+/// A procedure, or a function with the subtype of its value, which is not known where its declaration is faulty (RM 6.1).
+#[derive(Clone, Copy, PartialEq, Eq)]
+pub enum Subprogram {
+    Procedure,
+    Function(Option<Subtype>),
+}
+
+/// A procedure or function of a protected object, by the number of its unit (RM 9.4).
+#[derive(Clone, Copy, PartialEq, Eq)]
+pub struct Operation {
+    pub unit: usize,
+    pub subprogram: Subprogram,
+    pub instance: Instance,
 }
 
 /// A formal parameter as calls see it (RM 6.1): its subtype is not known where its declaration is faulty.
@@ -115,9 +157,9 @@ pub enum Builtin {
 pub type Symbols = IndexMap<Name, Meaning>;
 
 /// A region of declarations (RM 8.1): its names, how many frames are further out than its own, the cells
-/// and the names of variables, constants and tasks that its frame has so far, the tasks whose bodies are still
-/// to come, the entries of the tasks that it declares, where it is directly in a task's body the cell with that
-/// task's own number, and what allocates them.
+/// and the names of variables, constants, tasks and objects that its frame has so far, the tasks and the objects whose
+/// bodies are still to come, the entries of the tasks that it declares, what its objects declare, where it is
+/// directly in a task's body the cell with that task's own number, and what allocates them.
 pub struct Region {
     pub alloc: Global,
     pub symbols: Symbols,
@@ -125,7 +167,9 @@ pub struct Region {
     pub cells: usize,
     pub names: usize,
     pub awaited: Vec<Awaited>,
+    pub objects: Vec<AwaitedObject>,
     pub entries: Vec<EntryName>,
+    pub parts: Vec<ObjectPart>,
     pub own: Option<Variable>,
 }
 
@@ -139,12 +183,16 @@ impl Drop for Region {
             cells: _,
             names: _,
             awaited,
+            objects,
             entries,
+            parts,
             own: _,
         } = self;
         drop(symbols);
         drop(awaited);
+        drop(objects);
         drop(entries);
+        drop(parts);
     }
 }
 
@@ -160,7 +208,9 @@ impl Region {
             cells: 0,
             names: 0,
             awaited: Vec::new(alloc),
+            objects: Vec::new(alloc),
             entries: Vec::new(alloc),
+            parts: Vec::new(alloc),
             own: None,
         }
     }
@@ -252,6 +302,17 @@ impl Region {
             Some(index) => Some(self.awaited.remove(index)),
         }
     }
+
+    /// The protected object of this name that waits for its body, if one does. From now on it waits no more.
+    pub fn object_comes(&mut self, name: &Name) -> Option<AwaitedObject>
+        ensures object { result ≡ awaited_object name.now self.old.objects.items }
+        ensures region { plain_region self.new ≡ object_come name.now (plain_region self.old) }
+    {
+        match index_of_object(&self.objects, name) {
+            None => None,
+            Some(index) => Some(self.objects.remove(index)),
+        }
+    }
 }
 
 // The task of a type that runs the body at a level.
@@ -340,6 +401,23 @@ impl<'a> Scope<'a> {
         })
     }
 
+    /// The place behind the formals of a function of this name, whose declaration lasts still, in their region.
+    pub fn behind_formals(
+        own: &'a Ident,
+        innermost: &'a Region,
+        outer: &'a [&'a Region],
+    ) -> Made<Self>
+        ensures { IfOk result (λ scope. scope
+            ≡ hiding (with_own (own_hidden own.now (plain_region innermost.now)) [])
+            (plain_place innermost.now outer.now)) }
+    {
+        let scope = Scope::new(innermost, outer);
+        match own_hidden(own, innermost) {
+            None => Ok(scope),
+            Some(own) => scope.within_one(own),
+        }
+    }
+
     /// The place within the declaration of this name alone.
     pub fn within_one(&self, name: &'a Ident) -> Made<Self>
         ensures { IfOk result (λ scope. scope ≡ hiding (name.now ∷ []) self.now) }
@@ -404,6 +482,16 @@ impl<'a> Scope<'a> {
         is_in_own_body(self.outer, task, own, name)
     }
 
+    /// What the body of an object around the place, whose frame has this cell, declares a name to be.
+    pub fn named_inside(&self, own: Variable, name: &Name) -> Option<Meaning>
+        ensures { result ≡ named_inside name.now own self.now.regions }
+    {
+        if has_cell(own, self.innermost) {
+            return named_in(self.innermost, name);
+        }
+        named_inside(self.outer, own, name)
+    }
+
     /// The number of the entry of this name of a type of tasks, if it has one.
     pub fn entry_named(&self, task_type: usize, name: &Name) -> Option<usize>
         ensures { result ≡ entry_named name.now task_type self.now.regions }
@@ -412,6 +500,23 @@ impl<'a> Scope<'a> {
             Some(number) => Some(number),
             None => entry_named(self.outer, task_type, name),
         }
+    }
+
+    /// What a protected object declares by this name (RM 9.4).
+    pub fn part_named(&self, object: usize, name: &Name) -> Option<Part>
+        ensures { result ≡ part_named name.now object self.now.regions }
+    {
+        match part_in(&self.innermost.parts, object, name) {
+            Some(part) => Some(part),
+            None => part_named(self.outer, object, name),
+        }
+    }
+
+    /// Whether the calls of an entry may be counted at the place (RM 9.9(4)).
+    pub fn is_countable(&self, entry: Entry) -> bool
+        ensures { result ≡ is_countable entry self.now }
+    {
+        is_around(entry.owner) || self.is_own(entry)
     }
 
     /// Whether an entry is one of the task in whose body the place directly is (RM 9.5.2(14), 9.9(4)).
@@ -532,6 +637,30 @@ fn is_in_own_body(regions: &[&Region], task: &Name, own: Variable, name: &Name) 
     }
 }
 
+fn named_in(region: &Region, name: &Name) -> Option<Meaning>
+    ensures { result ≡ named_in name.now (plain_region region.now).symbols }
+{
+    match region.symbols.get(name) {
+        None => None,
+        Some(meaning) => Some(*meaning),
+    }
+}
+
+fn named_inside(regions: &[&Region], own: Variable, name: &Name) -> Option<Meaning>
+    ensures { result ≡ named_inside name.now own (plain_regions regions.now) }
+{
+    match regions.split_first() {
+        None => None,
+        Some((region, further_out)) => {
+            if has_cell(own, region) {
+                named_in(region, name)
+            } else {
+                named_inside(further_out, own, name)
+            }
+        }
+    }
+}
+
 // The number of an entry of a type of tasks.
 fn entry_named(regions: &[&Region], task_type: usize, name: &Name) -> Option<usize>
     ensures { result ≡ entry_named name.now task_type (plain_regions regions.now) }
@@ -542,6 +671,48 @@ fn entry_named(regions: &[&Region], task_type: usize, name: &Name) -> Option<usi
             Some(number) => Some(number),
             None => entry_named(further_out, task_type, name),
         },
+    }
+}
+
+// What a protected object declares by this name.
+fn part_named(regions: &[&Region], object: usize, name: &Name) -> Option<Part>
+    ensures { result ≡ part_named name.now object (plain_regions regions.now) }
+{
+    match regions.split_first() {
+        None => None,
+        Some((region, further_out)) => match part_in(&region.parts, object, name) {
+            Some(part) => Some(part),
+            None => part_named(further_out, object, name),
+        },
+    }
+}
+
+/// Whether an object is named in its own body.
+pub fn is_inside(access: Access) -> bool
+    ensures { result ≡ is_inside access }
+{
+    match access {
+        Access::Outside => false,
+        Access::Inside | Access::InFunction => true,
+    }
+}
+
+/// Whether that is the body of one of its functions.
+pub fn is_in_function(access: Access) -> bool
+    ensures { result ≡ is_in_function access }
+{
+    match access {
+        Access::Outside | Access::Inside => false,
+        Access::InFunction => true,
+    }
+}
+
+fn is_around(owner: Owner) -> bool
+    ensures { result ≡ is_around owner }
+{
+    match owner {
+        Owner::Object(instance) => is_inside(instance.access),
+        Owner::Single(_) | Owner::Element(_) => false,
     }
 }
 

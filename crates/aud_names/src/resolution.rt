@@ -6,10 +6,13 @@ ghost use Rattle.aud_syntax.specs.Ties.View.{plain_name, plain_part, part_list, 
 ghost use Rattle.aud_fault.specs.Least.{noted};
 ghost use Rattle.aud_names.specs.Names.{named_in, predefined};
 ghost use Rattle.aud_names.specs.Rules.{name_not_declared};
-ghost use Rattle.aud_names.specs.Resolution.{resolved, or_in_library, in_library, in_text_io, no_entry, entry_selected, selected, denoted_by, takes_arguments, is_plainly, is_text_io, is_last, may_stand, are_none, first_args, last_of, last_args};
+ghost use Rattle.aud_names.specs.Resolution.{resolved, or_in_library, in_library, in_text_io, no_entry, entry_selected, is_value, is_function, is_barred, of_object, kind_selected, part_selected, inside_selected, object_selected, selected, denoted_by, takes_arguments, is_plainly, is_text_io, is_last, may_stand, are_none, first_args, last_of, last_args};
 
-use crate::names::{Entry, Meaning, Owner, Scope, predefined};
-use crate::rules::{name_not_declared, wrong_kind_of_name};
+use crate::names::{
+    Entry, Instance, Meaning, Operation, Owner, Scope, Subprogram, is_inside, predefined,
+};
+use crate::parts::{Part, PartKind};
+use crate::rules::{name_not_declared, parameter_in_barrier, wrong_kind_of_name};
 use aud_fault::fault::Least;
 use aud_syntax::tree::{Expression, Name, NamePart};
 use aud_text::place::Pos;
@@ -68,6 +71,26 @@ fn is_last(others: &[NamePart]) -> bool
     }
 }
 
+/// Whether a subprogram is a function.
+pub fn is_value(subprogram: Subprogram) -> bool
+    ensures { result ≡ is_value subprogram }
+{
+    match subprogram {
+        Subprogram::Function(_) => true,
+        Subprogram::Procedure => false,
+    }
+}
+
+/// A function of a protected object.
+pub fn is_function(meaning: Meaning) -> bool
+    ensures { result ≡ is_function meaning }
+{
+    match meaning {
+        Meaning::Operation(operation) => is_value(operation.subprogram),
+        _ => false,
+    }
+}
+
 fn takes_arguments(meaning: Meaning) -> bool
     ensures { result ≡ takes_arguments meaning }
 {
@@ -76,20 +99,32 @@ fn takes_arguments(meaning: Meaning) -> bool
         | Meaning::Builtin(_)
         | Meaning::Procedure(_)
         | Meaning::TaskArray(_)
-        | Meaning::Entry(_) => true,
+        | Meaning::Entry(_)
+        | Meaning::Operation(_) => true,
         Meaning::ScalarType(_)
         | Meaning::Literal(_)
         | Meaning::Object(_)
         | Meaning::Exception(_)
         | Meaning::TaskType(_)
-        | Meaning::Task(_) => false,
+        | Meaning::Task(_)
+        | Meaning::Protected(_)
+        | Meaning::Barred => false,
+    }
+}
+
+fn is_barred(meaning: Meaning) -> bool
+    ensures { result ≡ is_barred meaning }
+{
+    match meaning {
+        Meaning::Barred => true,
+        _ => false,
     }
 }
 
 fn may_stand(meaning: Meaning, part: &NamePart, others: &[NamePart]) -> bool
     ensures { result ≡ may_stand meaning (plain_part part.now) (part_list others.now) }
 {
-    is_last(others) && (takes_arguments(meaning) || are_none(&part.args))
+    !is_barred(meaning) && (is_last(others) && (takes_arguments(meaning) || are_none(&part.args)))
 }
 
 // What stands behind a point and is no entry.
@@ -135,8 +170,137 @@ fn entry_selected(
     Denoted { meaning: None, at }
 }
 
+// An entry or an operation of an object, behind which these parts stand.
+fn of_object(meaning: Meaning, part: &NamePart, others: &[NamePart], faults: &mut Least) -> Denoted
+    ensures denoted { result
+        ≡ (of_object meaning (plain_part part.now) (part_list others.now)).denoted }
+    ensures noted { faults.new ≡ noted faults.old
+        (of_object meaning (plain_part part.now) (part_list others.now)).faults }
+{
+    let at = part.ident.at;
+    if is_last(others) {
+        return Denoted {
+            meaning: Some(meaning),
+            at,
+        };
+    }
+    wrong_kind_of_name(at, faults);
+    Denoted { meaning: None, at }
+}
+
+fn kind_selected(
+    kind: PartKind,
+    instance: Instance,
+    part: &NamePart,
+    others: &[NamePart],
+    faults: &mut Least,
+) -> Denoted
+    ensures denoted { result ≡ (kind_selected kind instance
+        (plain_part part.now) (part_list others.now)).denoted }
+    ensures noted { faults.new ≡ noted faults.old (kind_selected kind instance
+        (plain_part part.now) (part_list others.now)).faults }
+{
+    let at = part.ident.at;
+    match kind {
+        PartKind::Entry(number, _) => {
+            let owner = Owner::Object(instance);
+            of_object(
+                Meaning::Entry(Entry { number, owner }),
+                part,
+                others,
+                faults,
+            )
+        }
+        PartKind::Operation(unit, subprogram) => {
+            let operation = Operation {
+                unit,
+                subprogram,
+                instance,
+            };
+            of_object(Meaning::Operation(operation), part, others, faults)
+        }
+        PartKind::Component(_) => {
+            wrong_kind_of_name(at, faults);
+            Denoted { meaning: None, at }
+        }
+    }
+}
+
+// What stands behind the name of an object and a point, where the object declares this by the name, if anything.
+fn part_selected(
+    found: Option<Part>,
+    instance: Instance,
+    part: &NamePart,
+    others: &[NamePart],
+    faults: &mut Least,
+) -> Denoted
+    ensures denoted { result ≡ (part_selected found instance
+        (plain_part part.now) (part_list others.now)).denoted }
+    ensures noted { faults.new ≡ noted faults.old (part_selected found instance
+        (plain_part part.now) (part_list others.now)).faults }
+{
+    match found {
+        None => not_declared(part.ident.at, faults),
+        Some(found) => {
+            if found.is_private {
+                not_declared(part.ident.at, faults)
+            } else {
+                kind_selected(found.kind, instance, part, others, faults)
+            }
+        }
+    }
+}
+
+// The same in the object's body, which declares this by the name, if anything.
+fn inside_selected(
+    found: Option<Meaning>,
+    part: &NamePart,
+    others: &[NamePart],
+    faults: &mut Least,
+) -> Denoted
+    ensures denoted { result
+        ≡ (inside_selected found (plain_part part.now) (part_list others.now)).denoted }
+    ensures noted { faults.new ≡ noted faults.old
+        (inside_selected found (plain_part part.now) (part_list others.now)).faults }
+{
+    let at = part.ident.at;
+    match found {
+        None => not_declared(at, faults),
+        Some(Meaning::Entry(entry)) => of_object(Meaning::Entry(entry), part, others, faults),
+        Some(Meaning::Operation(operation)) => {
+            of_object(Meaning::Operation(operation), part, others, faults)
+        }
+        Some(_) => {
+            wrong_kind_of_name(at, faults);
+            Denoted { meaning: None, at }
+        }
+    }
+}
+
+fn object_selected(
+    inside: bool,
+    instance: Instance,
+    part: &NamePart,
+    others: &[NamePart],
+    scope: &Scope<'_>,
+    faults: &mut Least,
+) -> Denoted
+    ensures denoted { result ≡ (object_selected inside instance
+        (plain_part part.now) (part_list others.now) scope.now).denoted }
+    ensures noted { faults.new ≡ noted faults.old (object_selected inside instance
+        (plain_part part.now) (part_list others.now) scope.now).faults }
+{
+    let name = &part.ident.name;
+    if inside {
+        let found = scope.named_inside(instance.variable, name);
+        return inside_selected(found, part, others, faults);
+    }
+    let found = scope.part_named(instance.object, name);
+    part_selected(found, instance, part, others, faults)
+}
+
 // What a name denotes that has further parts, or arguments which do not fit what its first identifier means: an entry of a
-// task, or nothing.
+// task, an entry or operation of an object, or nothing.
 fn selected(
     meaning: Meaning,
     first: &NamePart,
@@ -176,7 +340,15 @@ fn selected(
                 faults,
             )
         }
+        (Meaning::Protected(instance), None, Some((second, further))) => {
+            let inside = is_inside(instance.access);
+            object_selected(inside, instance, second, further, scope, faults)
+        }
         (Meaning::Array(_), Some(_), Some(_)) => Denoted { meaning: None, at },
+        (Meaning::Barred, _, _) => {
+            parameter_in_barrier(at, faults);
+            Denoted { meaning: None, at }
+        }
         _ => {
             wrong_kind_of_name(at, faults);
             Denoted { meaning: None, at }

@@ -3,7 +3,7 @@
 ghost use Rattle.std.specs.Prelude.{◌≡◌, not};
 ghost use Rattle.aud_fault.specs.Least.{noted};
 ghost use Rattle.aud_names.specs.Names.{is_declared};
-ghost use Rattle.aud_names.specs.Rules.{base_of_subtype, base_asked, name_not_declared, declared_once, wrong_kind_of_name, fits, right_type, wrong_number_of_arguments, not_a_variable, right_name_at_end, right_label_at_end, no_matching_body, accept_or_count_in_place, same_mode, agree, same_parameter, conform, formals_conform, exit_in_loop, return_in_place, raise_in_handler, good_choice, number_too_large, too_many_decimals, not_an_entry};
+ghost use Rattle.aud_names.specs.Rules.{base_of_subtype, base_asked, name_not_declared, declared_once, wrong_kind_of_name, fits, right_type, wrong_number_of_arguments, not_a_variable, right_name_at_end, right_label_at_end, no_matching_body, accept_or_count_in_place, same_mode, agree, same_parameter, conform, formals_conform, exit_in_loop, return_in_place, raise_in_handler, good_choice, function_call_out_of_place, number_too_large, too_many_decimals, no_change_within_function, parameter_in_barrier, not_an_entry};
 
 use crate::names::{NamedParameter, Parameter, Symbols};
 use aud_fault::fault::Least;
@@ -140,8 +140,8 @@ pub fn no_matching_body(at: Pos, faults: &mut Least)
     faults.note(at, Refusal::NoMatchingBody);
 }
 
-/// An accept and a Count of an entry stand directly in the body of the task whose entry it is (RM 9.5.2(14), 9.9(4)),
-/// and an accept in no accept of the same entry (RM 9.5.2(15)).
+/// An accept and a Count of an entry stand directly in the body of the task whose entry it is (RM 9.5.2(14), 9.9(4)), a Count
+/// of a protected entry in the object's body, and an accept in no accept of the same entry (RM 9.5.2(15)).
 pub fn accept_or_count_in_place(good: bool, at: Pos, faults: &mut Least)
     ensures { faults.new ≡ noted faults.old (accept_or_count_in_place good at) }
 {
@@ -161,7 +161,8 @@ fn same_mode(left: Mode, right: Mode) -> bool
     }
 }
 
-fn agree(left: Option<Subtype>, right: Option<Subtype>) -> bool
+/// Whether two subtypes are the same; nothing is said of one that is not known.
+pub fn agree(left: Option<Subtype>, right: Option<Subtype>) -> bool
     ensures { result ≡ agree left right }
 {
     match (left, right) {
@@ -255,6 +256,29 @@ pub fn too_many_decimals(at: Pos, faults: &mut Least)
     ensures { faults.new ≡ noted faults.old (too_many_decimals at) }
 {
     faults.note(at, Refusal::TooManyDecimals);
+}
+
+/// A function's call is the whole right side of an assignment (profile choice).
+pub fn function_call_out_of_place(at: Pos, faults: &mut Least)
+    ensures { faults.new ≡ noted faults.old (function_call_out_of_place at) }
+{
+    faults.note(at, Refusal::FunctionCallOutOfPlace);
+}
+
+/// A protected function's body changes no component of its object, and calls no procedure or entry of it (RM 9.5.1(2)).
+pub fn no_change_within_function(good: bool, at: Pos, faults: &mut Least)
+    ensures { faults.new ≡ noted faults.old (no_change_within_function good at) }
+{
+    if !good {
+        faults.note(at, Refusal::ChangeWithinFunction);
+    }
+}
+
+/// A barrier names no formal of its entry (RM 9.5.2(18)).
+pub fn parameter_in_barrier(at: Pos, faults: &mut Least)
+    ensures { faults.new ≡ noted faults.old (parameter_in_barrier at) }
+{
+    faults.note(at, Refusal::ParameterInBarrier);
 }
 
 /// What a timed or conditional call calls is an entry (RM 9.7.2, 9.7.3).

@@ -67,7 +67,7 @@ begun_items b x i args v value ds h e =
     ∙ ap (λ z. a_statement (assigned_or_called z value) ∷ ds) (name_is x i args v e)
     ∙ ap (λ z. a_statement z ∷ ds) (sym h)
 
-opt_ident_is : (s : Option Ident) → opt_ident (opt_item an_ident s) ≡ s
+pub opt_ident_is : (s : Option Ident) → opt_ident (opt_item an_ident s) ≡ s
 opt_ident_is None = refl
 opt_ident_is (Some x) = refl
 
@@ -81,7 +81,7 @@ names_items x v ds = ap (λ z. some_names x z ∷ ds) (idents_items v.items)
 pub variable_items : (i : Ident) (e : Option Expression) (ds : List Item) → made g.Variable (an_ident i ∷ opt_item expression_item e ∷ ds) ≡ variable_item (i, e) ∷ ds
 variable_items i e ds = ap (λ z. a_variable i z ∷ ds) (opt_expression_is e)
 
-declarations_items : (xs : List Declaration) → the_declarations (list_item declaration_item xs) ≡ plain_declarations xs
+pub declarations_items : (xs : List Declaration) → the_declarations (list_item declaration_item xs) ≡ plain_declarations xs
 declarations_items [] = refl
 declarations_items (x ∷ xs) = ap (λ z. m.more_declarations (plain_declaration x) z) (declarations_items xs)
 
@@ -218,7 +218,7 @@ formal_items names (mode.In at) i ds = refl
 formal_items names (mode.Out at) i ds = refl
 formal_items names (mode.InOut at) i ds = refl
 
-formals_are : (xs : List Formal) → the_formals (list_item formal_item xs) ≡ map plain_formal xs
+pub formals_are : (xs : List Formal) → the_formals (list_item formal_item xs) ≡ map plain_formal xs
 formals_are [] = refl
 formals_are (x ∷ xs) = ap (λ z. plain_formal x ∷ z) (formals_are xs)
 

@@ -1,4 +1,5 @@
 pub mod Alternatives
 pub mod Gives
+pub mod Heads
 pub mod Items
 pub mod Parts

@@ -1,4 +1,4 @@
-// Entries of tasks (RM 9.5.2).
+// Entries (RM 9.5.2).
 
 ghost use Rattle.aud_grammar.specs.Grammar as g;
 ghost use Rattle.aud_grammar.specs.Grammar.{N, Rep};
@@ -14,7 +14,7 @@ use aud_syntax::tree::EntryDeclaration;
 use std::alloc::Global;
 
 /// An entry (RM 9.5.2(2)).
-fn entry_declaration(alloc: Global, start: Rest, room: u32) -> Read<EntryDeclaration>
+pub fn entry_declaration(alloc: Global, start: Rest, room: u32) -> Read<EntryDeclaration>
     ensures { Reads entry_item (N g.EntryDeclaration) room start.entry result }
 {
     let rest = word(start, Kind::Entry)?;

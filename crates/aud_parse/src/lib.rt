@@ -2,12 +2,16 @@
 #![tactic(auto)]
 
 mod build;
+mod build_protected;
 mod build_select;
 mod declaration;
 mod delay;
 mod entry;
 mod formals;
+mod operation;
+mod operation_head;
 mod parser;
+mod protected;
 mod scheme;
 mod select;
 mod statement;

@@ -13,7 +13,7 @@ ghost use Rattle.aud_grammar.specs.First.{next_in};
 ghost use Rattle.aud_grammar.specs.Actions.{an_ident, token, made};
 ghost use Rattle.aud_cursor.specs.Ties.Items.{vec_item, opt_item, boxed_item};
 ghost use Rattle.aud_parse_expr.specs.Ties.Items.{expression_item};
-ghost use Rattle.aud_parse.specs.Ties.Items.{assigned_item, rest_item, scheme_item, statement_item, boxed_statement_item, boxed_statements_item, arm_item, boxed_arm_item, handler_item, boxed_handler_item, boxed_body_item, done_item, doing_item, boxed_accept_item, boxed_alternative_item, else_item, last_item, further_item, boxed_otherwise_item, guarded_items, declaration_item, boxed_declaration_item, declare_item};
+ghost use Rattle.aud_parse.specs.Ties.Items.{assigned_item, rest_item, scheme_item, statement_item, boxed_statement_item, boxed_statements_item, arm_item, boxed_arm_item, handler_item, boxed_handler_item, boxed_body_item, done_item, doing_item, boxed_accept_item, boxed_alternative_item, else_item, last_item, further_item, boxed_otherwise_item, guarded_items, declaration_item, boxed_declaration_item, declare_item, operation_body_item, boxed_operation_body_item};
 ghost use Rattle.aud_parse.specs.Ties.Alternatives.{alternative_of, remaining, followed, MayComplete};
 ghost use Rattle.aud_parse.specs.Ties.Parts.{behind_label};
 ghost use Rattle.aud_cursor.specs.Ties.Reads.{Reads, MayRead, ReadsFlat, MayReadFlat, Completes, ReadsAll};
@@ -22,6 +22,7 @@ use crate::build::{
     Branch, Declare, add, arm_of, assign_or_call, handler_of, in_order, made_accept, made_block,
     made_body, made_if, made_loop, made_procedure, made_task_body,
 };
+use crate::build_protected::made_operation_body;
 use crate::build_select::{
     accept_alternative_of, accepting_of, delay_alternative_of, guarded_of, made_select,
     made_select_call, or_delay_of, or_else_of,
@@ -29,6 +30,9 @@ use crate::build_select::{
 use crate::declaration::named_declaration;
 use crate::delay::{delay, delay_statement};
 use crate::formals::{head, specification};
+use crate::operation::OPERATIONS;
+use crate::operation_head::operation_head;
+use crate::protected::{end_protected_body, protected_declaration};
 use crate::scheme::{Scheme, opt_scheme};
 use crate::select::{Form, Seen, first_form, next_form, opt_guard, terminate_alternative};
 use crate::task::task_declaration;
@@ -40,11 +44,16 @@ use aud_lex::token::{Kind, Token};
 use aud_parse_expr::expression::{expression, name, opt_args, opt_expression, opt_value, selected};
 use aud_syntax::tree::{
     AcceptStatement, Alternative, Arm, Body, Declaration, Expression, Guarded, Handler, Ident,
-    Name, NamePart, Otherwise, Statement, Statements,
+    Name, NamePart, OperationBody, Otherwise, Statement, Statements,
 };
 use std::alloc::Global;
 
-const DECLARATIONS: [Kind; 3] = [Kind::Identifier, Kind::Procedure, Kind::Task];
+const DECLARATIONS: [Kind; 4] = [
+    Kind::Identifier,
+    Kind::Procedure,
+    Kind::Task,
+    Kind::Protected,
+];
 
 const STATEMENTS: [Kind; 14] = [
     Kind::Null,
@@ -194,6 +203,65 @@ fn task(alloc: Global, start: Rest, room: u32) -> Read<Box<Declaration>>
     task_declaration(alloc, begin, rest, room)
 }
 
+/// The body of an operation (RM 9.4(8)).
+#[cycle(statement)]
+#[inline(never)]
+fn operation_body(alloc: Global, start: Rest, room: u32) -> Read<Box<OperationBody>>
+    ensures { Reads boxed_operation_body_item (N g.OperationBody) room start.entry result }
+{
+    let (head, rest) = operation_head(alloc, start, room)?;
+    let (declarations, rest) = opt_declarations(alloc, rest, room)?;
+    let (body, rest) = body(alloc, rest, room)?;
+    let operation = made_operation_body(alloc, head, declarations, body)?;
+    Ok((operation, rest))
+}
+
+/// The bodies of operations.
+#[cycle(statement)]
+fn operation_bodies(alloc: Global, start: Rest, room: u32) -> Read<Vec<OperationBody>>
+    ensures { MayRead (vec_item operation_body_item) (Rep g.OperationBody) room start.entry result }
+{
+    let mut all = Vec::new(alloc);
+    let mut rest = start;
+    'turns: while is_one_of(rest, &OPERATIONS) {
+        let (next, after) = operation_body(alloc, rest, room)?;
+        all = add(all, next)?;
+        rest = after;
+    }
+    Ok((all, rest))
+}
+
+/// The body of a protected object, behind its first word (RM 9.4(7)).
+#[cycle(statement)]
+#[inline(never)]
+fn protected_body<'a>(
+    alloc: Global,
+    begin: &Token,
+    start: Rest<'a>,
+    room: u32,
+) -> Read<'a, Box<Declaration>>
+    ensures { Completes (λ es. made g.Protected (token begin.now ∷ es)) boxed_declaration_item
+        (N g.ProtectedBody ∷ []) room start.entry result }
+{
+    let rest = word(start, Kind::Body)?;
+    let (name, rest) = ident(alloc, rest)?;
+    let (name, rest) = ended(name, rest, Kind::Is)?;
+    let (bodies, rest) = operation_bodies(alloc, rest, room)?;
+    end_protected_body(alloc, (name, bodies), begin, rest)
+}
+
+/// A protected object, or the body of one (RM 9.4).
+#[cycle(statement)]
+fn protected(alloc: Global, start: Rest, room: u32) -> Read<Box<Declaration>>
+    ensures { Reads boxed_declaration_item (N g.Protected) room start.entry result }
+{
+    let (begin, rest) = token(start, Kind::Protected)?;
+    if is(rest, Kind::Body) {
+        return protected_body(alloc, begin, rest, room);
+    }
+    protected_declaration(alloc, begin, rest, room)
+}
+
 /// A declaration (RM 3.1).
 #[cycle(statement)]
 fn declaration(alloc: Global, start: Rest, room: u32) -> Read<Box<Declaration>>
@@ -205,7 +273,10 @@ fn declaration(alloc: Global, start: Rest, room: u32) -> Read<Box<Declaration>>
     if is(start, Kind::Procedure) {
         return procedure(alloc, start, room);
     }
-    task(alloc, start, room)
+    if is(start, Kind::Task) {
+        return task(alloc, start, room);
+    }
+    protected(alloc, start, room)
 }
 
 /// Declarations, at least one.

@@ -29,10 +29,11 @@ impl Model for ScopedProgram {
     ghost use Rattle.aud_typed.specs.declared.program.Program.{Program};
     ghost use Rattle.std.specs.Coded.{codes};
     ghost use Rattle.aud_typed.specs.contracts.program.Body as body;
+    ghost use Rattle.aud_typed.specs.contracts.program.BooleanExpression as boolean;
 
     ghost Value = { Program };
 
-    ghost coded = { Prim.hlevel (codes, body.the_row.coded) };
+    ghost coded = { Prim.hlevel (codes, body.the_row.coded, boolean.the_row.coded) };
 
     ghost view = { λ s. s.program };
 

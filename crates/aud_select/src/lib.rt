@@ -1,4 +1,4 @@
-// Selective accepts (RM 9.7.1), delays (RM 9.6), and calls whose time is over (RM 9.7.2).
+// Selective accepts (RM 9.7.1) and delays (RM 9.6).
 #![tactic(auto)]
 
 pub mod delaying;

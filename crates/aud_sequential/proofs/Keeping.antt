@@ -8,7 +8,7 @@ use Rattle.aud_meaning.specs.Effects.{live_frames}
 use Rattle.aud_meaning.specs.Step.{has_next}
 use Rattle.aud_meaning.specs.Ties.Part.{Part, rest_of}
 use Rattle.aud_code.specs.declared.line.Ending.{Ending}
-use Rattle.aud_code.specs.declared.line.Ending.TheVariants.{Declare, DeclareArray, Null, Assign, Put, If, While, Loop, Exit, RaiseAgain, Block, Return, Call}
+use Rattle.aud_code.specs.declared.line.Ending.TheVariants.{Declare, DeclareArray, Null, Assign, Put, If, While, Loop, Exit, RaiseAgain, Block, Return, ReturnValue, Call, OwnCall}
 use Rattle.aud_code.specs.declared.line.Ending.TheVariants as ending
 use Rattle.aud_code.specs.declared.line.ForLoop.{ForLoop}
 use Rattle.aud_code.specs.Places.{Spot}
@@ -51,7 +51,9 @@ module _ (p : Part Spot) where
   does_keep units code RaiseAgain at next x = refl
   does_keep units code (Block region inside) at next x = one_of room _ _ refl refl
   does_keep units code (Return way) at next x = refl
+  does_keep units code (ReturnValue way) at next x = newest x.integers _ (λ z. refl)
   does_keep units code (Call n) at next x = one_of room _ _ refl refl
+  does_keep units code OwnCall at next x = refl
 
   pub continued_keeps : (f : ForLoop) (behind inside : ℕ) → Keeps (continued f behind inside p)
   continued_keeps f behind inside = one_of (has_next f.backward (innermost_cell 0 (stored_in p)) (innermost_cell 1 (stored_in p))) _ _ refl refl

@@ -9,7 +9,7 @@ use Rattle.aud_meaning.specs.Run.{master_left_by}
 use Rattle.aud_meaning.specs.Ties.Part.{Part}
 use Rattle.aud_meaning.specs.Ties.Stack.{out_of_loops}
 use Rattle.aud_code.specs.declared.line.EndLine.{EndLine}
-use Rattle.aud_code.specs.declared.line.Ending.TheVariants.{Declare, DeclareArray, Null, Assign, Put, If, While, Loop, Exit, Raise, RaiseAgain, Block, Return, Call}
+use Rattle.aud_code.specs.declared.line.Ending.TheVariants.{Declare, DeclareArray, Null, Assign, Put, If, While, Loop, Exit, Raise, RaiseAgain, Block, Return, ReturnValue, Call, OwnCall}
 use Rattle.aud_code.specs.declared.line.Last.{Last}
 use Rattle.aud_code.specs.declared.line.Among.TheVariants as among
 use Rattle.aud_code.specs.declared.line.Last.TheVariants.{Does, Concerns, Continues, Guards, Ends, Leaves}
@@ -36,11 +36,16 @@ leaving plan (Does (Raise y) next) s x = refl
 leaving plan (Does RaiseAgain next) s x = refl
 leaving plan (Does (Block region inside) next) s x = refl
 leaving plan (Does (Return w) next) s x = refl
+leaving plan (Does (ReturnValue w) next) s x = refl
 leaving plan (Does (Call unit) next) s x = refl
+leaving plan (Does OwnCall next) s x = refl
 leaving plan (Concerns (among.DeclareTasks ts) next) s x = refl
+leaving plan (Concerns (among.DeclareObject n) next) s x = refl
 leaving plan (Concerns among.Activate next) s x = refl
 leaving plan (Concerns among.Activated next) s x = refl
 leaving plan (Concerns (among.Call entry form otherwise) next) s x = refl
+leaving plan (Concerns (among.CallObject v entry form otherwise) next) s x = refl
+leaving plan (Concerns (among.Operation v unit) next) s x = refl
 leaving plan (Concerns among.Delay next) s x = refl
 leaving plan (Concerns (among.Accept entry region body) next) s x = refl
 leaving plan (Concerns (among.Select has_else own offers) next) s x = refl
@@ -83,7 +88,7 @@ module _ (code : Flat) (q : Part Spot) where
   none_by ending h = absurd cc
   none_by (selecting ones) h = refl
   none_by (calling task entry) h = refl
-  none_by (starting object reading) h = absurd h
+  none_by (starting object reading) h = refl
 
   pub none_left : LeavesIn code q false → LeavesMaster code q None
   none_left h = λ plan s. none_by (coming_at code plan q.pending s q.control) (h plan s)
@@ -93,7 +98,7 @@ module _ (code : Flat) (q : Part Spot) where
   some_by master ending is h = is
   some_by master (selecting ones) is h = absurd cc
   some_by master (calling task entry) is h = absurd cc
-  some_by master (starting object reading) is h = absurd h
+  some_by master (starting object reading) is h = absurd cc
 
   pub some_left : (master : Option ℕ) → master ≡ master_left_by (out_of_loops q.stack).opened → LeavesIn code q true → LeavesMaster code q master
   some_left master is h = λ plan s. some_by master (coming_at code plan q.pending s q.control) is (h plan s)

@@ -9,7 +9,7 @@ use Rattle.aud_meaning.specs.Run.{end_kind_by}
 use Rattle.aud_meaning.specs.Ties.Part.{Part}
 use Rattle.aud_meaning.specs.Ties.Stack.{Stack, out_of_loops}
 use Rattle.aud_code.specs.declared.line.EndLine.{EndLine}
-use Rattle.aud_code.specs.declared.line.Ending.TheVariants.{Declare, DeclareArray, Null, Assign, Put, If, While, Loop, Exit, Raise, RaiseAgain, Block, Return, Call}
+use Rattle.aud_code.specs.declared.line.Ending.TheVariants.{Declare, DeclareArray, Null, Assign, Put, If, While, Loop, Exit, Raise, RaiseAgain, Block, Return, ReturnValue, Call, OwnCall}
 use Rattle.aud_code.specs.declared.line.Last.{Last}
 use Rattle.aud_code.specs.declared.line.Among.TheVariants as among
 use Rattle.aud_code.specs.declared.line.Last.TheVariants.{Does, Concerns, Continues, Guards, Ends, Leaves}
@@ -36,11 +36,16 @@ of_kind plan stack (Does (Raise y) next) s x = refl
 of_kind plan stack (Does RaiseAgain next) s x = refl
 of_kind plan stack (Does (Block region inside) next) s x = refl
 of_kind plan stack (Does (Return w) next) s x = refl
+of_kind plan stack (Does (ReturnValue w) next) s x = refl
 of_kind plan stack (Does (Call unit) next) s x = refl
+of_kind plan stack (Does OwnCall next) s x = refl
 of_kind plan stack (Concerns (among.DeclareTasks ts) next) s x = refl
+of_kind plan stack (Concerns (among.DeclareObject n) next) s x = refl
 of_kind plan stack (Concerns among.Activate next) s x = refl
 of_kind plan stack (Concerns among.Activated next) s x = refl
 of_kind plan stack (Concerns (among.Call entry form otherwise) next) s x = refl
+of_kind plan stack (Concerns (among.CallObject v entry form otherwise) next) s x = refl
+of_kind plan stack (Concerns (among.Operation v unit) next) s x = refl
 of_kind plan stack (Concerns among.Delay next) s x = refl
 of_kind plan stack (Concerns (among.Accept entry region body) next) s x = refl
 of_kind plan stack (Concerns (among.Select has_else own offers) next) s x = refl

@@ -4,7 +4,6 @@ use Rattle.std.specs.Prelude.{slice_get, int_le, ◌+ℤ◌, ◌++◌, Result}
 use Rattle.aud_text.specs.declared.limits.TheConstants.{FRAMES, OUTPUT}
 use Rattle.aud_text.specs.declared.raise.Raise.{Raise}
 use Rattle.aud_text.specs.declared.place.Pos.{Pos}
-use Rattle.aud_typed.specs.declared.program.Unit as declared
 use Rattle.aud_typed.specs.Tree.{Plan, UnitPlan}
 use Rattle.aud_meaning.specs.Configuration.{Target, for_block, for_loop, for_procedure, Own, Shared, Acting}
 use Rattle.aud_meaning.specs.Control.{Scene, Asked, goes_on, assigns, enters_loop, next_of_loop, goes_out, enters_block, calls_procedure, declares as asks_declaration}
@@ -20,7 +19,7 @@ use Rattle.aud_meaning.specs.Why.Alone.{acts}
 use Rattle.aud_meaning.proofs.Part.{closes, closes_times}
 use Rattle.aud_code.specs.declared.line.EndLine.{EndLine}
 use Rattle.aud_code.specs.declared.line.Ending.{Ending}
-use Rattle.aud_code.specs.declared.line.Ending.TheVariants.{Declare, DeclareArray, Null, Assign, Put, If, While, Loop, Exit, RaiseAgain, Block, Return, Call}
+use Rattle.aud_code.specs.declared.line.Ending.TheVariants.{Declare, DeclareArray, Null, Assign, Put, If, While, Loop, Exit, RaiseAgain, Block, Return, ReturnValue, Call, OwnCall}
 use Rattle.aud_code.specs.declared.line.Ending.TheVariants as ending
 use Rattle.aud_code.specs.declared.line.Last.{Last}
 use Rattle.aud_code.specs.declared.line.Last.TheVariants.{Does, Concerns, Continues, Guards, Ends, Leaves}
@@ -34,19 +33,10 @@ use Rattle.aud_code.specs.Flat.{Flat, end_at, asked_last}
 use Rattle.aud_code.specs.Flat as flat
 use Rattle.aud_code.specs.Sound.{Takes, LastFine, counts_of}
 use Rattle.aud_code.specs.View.{plain_end, plain_last, plain_for, ways_of, exit_of}
-use Rattle.aud_store.specs.Ties.Stored.{declared as declared_in, entered, innermost_cell}
+use Rattle.aud_store.specs.Ties.Stored.{declared as declared_in, entered, innermost_cell, with_function_value}
 use Rattle.aud_store.specs.Ties.Stored as store
-use Rattle.aud_sequential.specs.Shown.{plans_of, unit_in}
-use Rattle.aud_sequential.specs.Steps.{DoesAsked, IsOfOne, moved_to, stored, stored_in, on_stored, shared_in, written, declared_to, opened, looped, continued, left_loops, called_unit, does, with_newest, with_two}
-
--- No unit is a function's.
-abbrev pub ArePlain : List UnitPlan → Type 0
-ArePlain units = (n : ℕ) → (unit_in units n).is_function ≡ false
-
-pub plain_units : (us : List declared.Unit) → ArePlain (plans_of us)
-plain_units [] n = refl
-plain_units (u ∷ us) zero = refl
-plain_units (u ∷ us) (suc n) = plain_units us n
+use Rattle.aud_sequential.specs.Shown.{unit_in}
+use Rattle.aud_sequential.specs.Steps.{DoesAsked, IsOfOne, moved_to, stored, stored_in, on_stored, shared_in, written, declared_to, opened, looped, continued, left_loops, called_unit, returning_with, with_result, does, with_newest, with_two}
 
 module _ (code : Flat) (plan : Plan) (barrier : ℕ → Sight → Result Bool Raise) (o : Own) (shared : Shared) (q : Part Spot) where
   abbrev go : Orders Spot
@@ -79,6 +69,12 @@ module _ (code : Flat) (plan : Plan) (barrier : ℕ → Sight → Result Bool Ra
     gets_out w is =
         ap (λ (c : Spot). record (W (left_loops w q)) { control = c }) (ap (λ e. goes_way e q.control) (sym is) ∙ out_so)
         ∙ ap (λ (x : Own). record (W q) { control = go.out q.control; own = x }) (closes_times o q.pending w.loops q.stack)
+
+    -- with a function's value
+    gets_out_with : (w : Way) (z : ℤ) → exit_of l.last ≡ Some (record { to = w.to; loops = w.loops }) → W (left_loops w (with_result z q)) ≡ Acts (goes_out w.loops (Some z))
+    gets_out_with w z is =
+        ap (λ (c : Spot). record (W (left_loops w (with_result z q))) { control = c }) (ap (λ e. goes_way e q.control) (sym is) ∙ out_so)
+        ∙ ap (λ (x : Own). record (W q) { control = go.out q.control; own = x }) (closes_times o q.pending w.loops (with_function_value z q.stack))
 
   -- part 1 or part 0
   one_of_two : (b : Bool) (next inside : ℕ) → goes (if b then inside else next) q.control ≡ goes_there (slice_get (next ∷ inside ∷ []) (if b then 1 else 0)) q.control
@@ -144,21 +140,20 @@ module _ (code : Flat) (plan : Plan) (barrier : ℕ → Sight → Result Bool Ra
       ∙ goes_to l is_end (record (W q) { own = own.closed (W q).own }) 0 (goes behind q.control) refl)
 
   -- a procedure's frame
-  module _ (units : List UnitPlan) (has : plan.units ≡ units) (plain : ArePlain units) (n : ℕ) (at : Pos) (x : Operands) where
-    -- of this unit, which is a function's or none
-    abbrev entering : UnitPlan → Bool → Acting Spot
-    entering u f =
-        own.opens (for_procedure (record { is_function = f; backs = x.backs; into = newest x.targets; value = None })) u.region at (take u.level q.stack.display) x.values (length x.values)
+  module _ (units : List UnitPlan) (has : plan.units ≡ units) (n : ℕ) (at : Pos) (x : Operands) where
+    abbrev entering : UnitPlan → Acting Spot
+    entering u =
+        own.opens (for_procedure (returning_with u.is_function x)) u.region at (take u.level q.stack.display) x.values (length x.values)
         (record (W q) { control = go.enters n q.control })
 
     calls_so : W (called_unit units code n at x q) ≡ Acts (calls_procedure at n (passed_in x) (newest x.targets))
     calls_so =
         let unit : unit_of plan n ≡ unit_in units n = ap (λ us. slice_index_or us n no_unit) has in
         either (nat_le (suc (live_frames q.stack.opened)) FRAMES) _ _ _ _
-        (ap (λ f. entering (unit_in units n) f) (sym (plain n)) ∙ ap (λ (u : UnitPlan). entering u u.is_function) (sym unit)) refl
+        (ap entering (sym unit)) refl
 
   -- Each ending, whatever it sees.
-  module _ (units : List UnitPlan) (has : plan.units ≡ units) (plain : ArePlain units) (s : Scene) where
+  module _ (units : List UnitPlan) (has : plan.units ≡ units) (s : Scene) where
     abbrev Asks : Last → Pos → Operands → Asked
     Asks last at x = asked_last (plain_last last) (loops_of (exit_of last)) at s (Reached x)
 
@@ -199,16 +194,18 @@ module _ (code : Flat) (plan : Plan) (barrier : ℕ → Sight → Result Bool Ra
     done_by RaiseAgain next at out w x is_end fine = refl
     done_by (Block region inside) next at out w x is_end fine = blocks_so region inside next at out w is_end
     done_by (Return way) next at out w x is_end fine = gets_out (record { last = Does (Return way) next; at = at; out = out; within = w }) is_end way refl
-    done_by (Call n) next at out w x is_end fine = calls_so units has plain n at x
+    done_by (ReturnValue way) next at out w x is_end fine = by_one x.integers _ _ fine (λ z. gets_out_with (record { last = Does (ReturnValue way) next; at = at; out = out; within = w }) is_end way z refl)
+    done_by (Call n) next at out w x is_end fine = calls_so units has n at x
+    done_by OwnCall next at out w x is_end fine = refl
 
 -- An ending that a task comes to does what it asks for, by what becomes of the task's part.
-module _ (units : List UnitPlan) (plain : ArePlain units) (code : Flat) (q : Part Spot) (l : EndLine) (is_end : plain_end l ≡ end_at code q.control.place) where
+module _ (units : List UnitPlan) (code : Flat) (q : Part Spot) (l : EndLine) (is_end : plain_end l ≡ end_at code q.control.place) where
   abbrev Answers : Last → Part Spot → Operands → Type 0
   Answers last p x = (s : Scene) → DoesAsked units code q p (asked_last (plain_last last) (loops_of (exit_of last)) l.at s (Reached x))
 
   pub statement_answers : (e : Ending) (next : ℕ) (x : Operands) → l.last ≡ Does e next → LastFine (plain_last l.last) (counts_of x) → Answers l.last (does units code e l.at next x q) x
   statement_answers e next x is fine = subst (λ last. plain_end (record l { last = last }) ≡ end_at code q.control.place → LastFine (plain_last last) (counts_of x) → Answers last (does units code e l.at next x q) x) (sym is)
-      (λ there f s plan has barrier o shared. done_by code plan barrier o shared q units has plain s e next l.at l.out l.within x there f) is_end fine
+      (λ there f s plan has barrier o shared. done_by code plan barrier o shared q units has s e next l.at l.out l.within x there f) is_end fine
 
   pub loop_answers : (f : ForLoop) (behind inside : ℕ) (x : Operands) → l.last ≡ Continues f behind inside → Answers l.last (continued f behind inside q) x
   loop_answers f behind inside x is = subst (λ last. plain_end (record l { last = last }) ≡ end_at code q.control.place → Answers last (continued f behind inside q) x) (sym is)

@@ -13,7 +13,7 @@ use Rattle.aud_meaning.specs.Ties.Part.{Part}
 use Rattle.aud_code.specs.Places.{Spot}
 use Rattle.aud_code.specs.Flat.{Flat, coming_at, end_at}
 use Rattle.aud_code.specs.declared.line.Ending.{Ending}
-use Rattle.aud_code.specs.declared.line.Ending.TheVariants.{Declare, DeclareArray, Null, Assign, Put, If, While, Loop, Exit, Raise, RaiseAgain, Block, Return, Call}
+use Rattle.aud_code.specs.declared.line.Ending.TheVariants.{Declare, DeclareArray, Null, Assign, Put, If, While, Loop, Exit, Raise, RaiseAgain, Block, Return, ReturnValue, Call, OwnCall}
 use Rattle.aud_code.specs.declared.line.Last.{Last}
 use Rattle.aud_code.specs.declared.line.Among.{Among}
 use Rattle.aud_code.specs.declared.line.Among.TheVariants as among
@@ -34,13 +34,18 @@ statement_kind (Raise x) = kind.Raise
 statement_kind RaiseAgain = kind.Raise
 statement_kind (Block region inside) = kind.Block
 statement_kind (Return w) = kind.Return
+statement_kind (ReturnValue w) = kind.Return
 statement_kind (Call unit) = kind.Proc
+statement_kind OwnCall = kind.Proc
 
 abbrev pub among_kind : Among → StepKind
 among_kind (among.DeclareTasks ts) = kind.Declaration
+among_kind (among.DeclareObject n) = kind.Declaration
 among_kind among.Activate = kind.Activate
 among_kind among.Activated = kind.Activated
 among_kind (among.Call entry form otherwise) = kind.Call
+among_kind (among.CallObject v entry form otherwise) = kind.Start
+among_kind (among.Operation v unit) = kind.Start
 among_kind among.Delay = kind.Delay
 among_kind (among.Accept entry region body) = kind.Accept
 among_kind (among.Select has_else own offers) = kind.Select
@@ -60,7 +65,7 @@ IsOfKind s k (simply w) = k ≡ w
 IsOfKind s k ending = k ≡ end_kind_by (out_of_loops s).opened
 IsOfKind s k (selecting ones) = k ≡ kind.Select
 IsOfKind s k (calling task entry) = k ≡ kind.Call
-IsOfKind s k (starting object reading) = ⊥
+IsOfKind s k (starting object reading) = k ≡ kind.Start
 
 -- so it is, whatever the program's plan and what it sees
 abbrev pub IsNextKind : Flat → Part Spot → StepKind → Type 0

@@ -31,7 +31,7 @@ IsLeaving leaves (simply w) = leaves ≡ false
 IsLeaving leaves ending = leaves ≡ true
 IsLeaving leaves (selecting ones) = leaves ≡ false
 IsLeaving leaves (calling task entry) = leaves ≡ false
-IsLeaving leaves (starting object reading) = ⊥
+IsLeaving leaves (starting object reading) = leaves ≡ false
 
 -- so it is, whatever the program's plan and what it sees
 abbrev pub LeavesIn : Flat → Part Spot → Bool → Type 0
@@ -43,7 +43,7 @@ IsOfMaster s master (simply w) = master ≡ None
 IsOfMaster s master ending = master ≡ master_left_by (out_of_loops s).opened
 IsOfMaster s master (selecting ones) = master ≡ None
 IsOfMaster s master (calling task entry) = master ≡ None
-IsOfMaster s master (starting object reading) = ⊥
+IsOfMaster s master (starting object reading) = master ≡ None
 
 abbrev pub LeavesMaster : Flat → Part Spot → Option ℕ → Type 0
 LeavesMaster code p master = (plan : Plan) (s : Sight) → IsOfMaster p.stack master (coming_at code plan p.pending s p.control)

@@ -1,13 +1,13 @@
 -- What a step that concerns a task alone does to its part.
-use Rattle.std.specs.Prelude.{◌≡◌, ◌+ℤ◌, ℕ, suc, ℤ, List, [], ◌∷◌, replicate, nat_lt, nat_le, int_le, Some, None, Bool, true, Result, if◌then◌else◌}
+use Rattle.std.specs.Prelude.{◌≡◌, ◌+ℤ◌, ℕ, suc, ℤ, List, [], ◌∷◌, length, take, replicate, nat_lt, nat_le, int_le, Some, None, Bool, true, Result, if◌then◌else◌}
 use Rattle.aud_text.specs.declared.limits.TheConstants.{ELEMENTS, FRAMES}
 use Rattle.aud_text.specs.declared.raise.Raise.{Raise}
-use Rattle.aud_text.specs.declared.raise.Raise.TheVariants.{Storage}
+use Rattle.aud_text.specs.declared.raise.Raise.TheVariants.{Program, Storage}
 use Rattle.aud_text.specs.declared.place.Pos.{Pos}
 use Rattle.aud_typed.specs.declared.program.Exception.{Exception}
 use Rattle.aud_typed.specs.declared.program.Exception.TheVariants.{Predefined}
 use Rattle.aud_typed.specs.Tree.{Plan, UnitPlan}
-use Rattle.aud_meaning.specs.Configuration.{Target, Purpose, for_block, for_loop, Own, Shared}
+use Rattle.aud_meaning.specs.Configuration.{Target, Purpose, Returning, for_block, for_loop, for_procedure, Own, Shared}
 use Rattle.aud_meaning.specs.Control.{Asked}
 use Rattle.aud_meaning.specs.Evaluation.{Sight, nearest_zero}
 use Rattle.aud_meaning.specs.Step.{for_first, for_step, has_next, not_handled}
@@ -16,7 +16,7 @@ use Rattle.aud_meaning.specs.Ties.Stack.{closed, closed_times}
 use Rattle.aud_meaning.specs.Ties.Part.{Part, within}
 use Rattle.aud_meaning.specs.Why.Alone.{acts}
 use Rattle.aud_code.specs.declared.line.Ending.{Ending}
-use Rattle.aud_code.specs.declared.line.Ending.TheVariants.{Declare, DeclareArray, Null, Assign, Put, If, While, Loop, Exit, RaiseAgain, Block, Return, Call}
+use Rattle.aud_code.specs.declared.line.Ending.TheVariants.{Declare, DeclareArray, Null, Assign, Put, If, While, Loop, Exit, RaiseAgain, Block, Return, ReturnValue, Call, OwnCall}
 use Rattle.aud_code.specs.declared.line.Ending.TheVariants as ending
 use Rattle.aud_code.specs.declared.line.Last.{Last}
 use Rattle.aud_code.specs.declared.line.Last.TheVariants.{Does, Concerns, Continues, Guards, Ends, Leaves}
@@ -27,7 +27,7 @@ use Rattle.aud_code.specs.Places.{Spot, goes}
 use Rattle.aud_code.specs.Instruction.{Operands}
 use Rattle.aud_code.specs.Eval.{newest}
 use Rattle.aud_code.specs.Flat.{Flat, start_at}
-use Rattle.aud_store.specs.Ties.Stored.{Stored, entered, declared, innermost_cell}
+use Rattle.aud_store.specs.Ties.Stored.{Stored, entered, entered_after, declared, innermost_cell, with_function_value}
 use Rattle.aud_store.specs.Ties.Stored as store
 use Rattle.aud_sequential.specs.Shown.{unit_in}
 
@@ -123,17 +123,25 @@ left_loops w p = record (moved_to w.to p) { stack = closed_times w.loops p.stack
 abbrev pub entered_at : ℕ → Part Spot → Part Spot
 entered_at start p = record p { control = record { place = start; returns = p.control.place ∷ p.control.returns } }
 
--- a procedure's frame is opened, of this level and with this table, and the step leads to its beginning; where there is no room,
--- Storage_Error
-abbrev pub called : (level region start : ℕ) → Pos → Operands → Part Spot → Part Spot
-called level region start at o p =
+-- what the end of a procedure or function does that is called with these operands
+abbrev pub returning_with : (is_function : Bool) → Operands → Returning
+returning_with is_function o = record { is_function = is_function; backs = o.backs; into = newest o.targets; value = None }
+
+-- the frame of a procedure or function is opened, of this level and with this table, and the step leads to its beginning; where there is
+-- no room, Storage_Error
+abbrev pub called : (level region : ℕ) → (is_function : Bool) → (start : ℕ) → Pos → Operands → Part Spot → Part Spot
+called level region is_function start at o p =
     if nat_le (suc (live_frames p.stack.opened)) FRAMES
-    then on_stored (store.called level o.backs (newest o.targets) region at o.values) (entered_at start p)
+    then on_stored (entered_after (for_procedure (returning_with is_function o)) region at o.values (length o.values) (take level p.stack.display)) (entered_at start p)
     else raised (Predefined Storage) at p
 
 -- that of a unit's number
 abbrev pub called_unit : List UnitPlan → Flat → ℕ → Pos → Operands → Part Spot → Part Spot
-called_unit units code n at o p = let u = unit_in units n in called u.level u.region (start_at code n) at o p
+called_unit units code n at o p = let u = unit_in units n in called u.level u.region u.is_function (start_at code n) at o p
+
+-- a function's value waits for the end of its call
+abbrev pub with_result : ℤ → Part Spot → Part Spot
+with_result z p = record p { stack = with_function_value z p.stack }
 
 -- what a statement does, before the place where the next step begins
 module _ (units : List UnitPlan) (code : Flat) where
@@ -151,4 +159,6 @@ module _ (units : List UnitPlan) (code : Flat) where
   does RaiseAgain at next o p = raised (not_handled (handled p.stack.opened None)) at p
   does (Block region inside) at next o p = opened for_block region at [] 0 inside p
   does (Return w) at next o p = left_loops w p
+  does (ReturnValue w) at next o p = with_newest o.integers p (λ z. left_loops w (with_result z p))
   does (Call n) at next o p = called_unit units code n at o p
+  does OwnCall at next o p = raised (Predefined Program) at p

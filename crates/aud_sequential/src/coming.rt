@@ -22,10 +22,11 @@ fn among_kind(among: &Among) -> StepKind
     ensures { result ≡ among_kind among.now }
 {
     match among {
-        Among::DeclareTasks(_) => StepKind::Declaration,
+        Among::DeclareTasks(_) | Among::DeclareObject(_) => StepKind::Declaration,
         Among::Activate => StepKind::Activate,
         Among::Activated => StepKind::Activated,
         Among::Call { .. } => StepKind::Call,
+        Among::CallObject { .. } | Among::Operation { .. } => StepKind::Start,
         Among::Delay => StepKind::Delay,
         Among::Accept { .. } => StepKind::Accept,
         Among::Select { .. } => StepKind::Select,
@@ -46,7 +47,7 @@ fn statement_kind(ending: Ending) -> StepKind
         Ending::Exit(_) => StepKind::Exit,
         Ending::Raise(_) | Ending::RaiseAgain => StepKind::Raise,
         Ending::Block { .. } => StepKind::Block,
-        Ending::Return(_) => StepKind::Return,
-        Ending::Call(_) => StepKind::Proc,
+        Ending::Return(_) | Ending::ReturnValue(_) => StepKind::Return,
+        Ending::Call(_) | Ending::OwnCall => StepKind::Proc,
     }
 }

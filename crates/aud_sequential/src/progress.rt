@@ -15,6 +15,7 @@ ghost use Rattle.aud_sequential.specs.Parked.{no_part};
 ghost use Rattle.aud_sequential.specs.Fast.{RunsFast};
 
 mod accepts;
+mod apart;
 mod calls;
 mod opening;
 pub mod parked;
@@ -24,7 +25,7 @@ use crate::fast::{FastRun, fast_run_with};
 use aud_code::line::Way;
 use aud_code::sound_code::SoundCode;
 use aud_meaning::state::Pending;
-use aud_store::stack::Purpose;
+use aud_store::purpose::Purpose;
 use aud_store::store::Store;
 use aud_store::target::Target;
 use aud_text::int32::Int32;

@@ -13,7 +13,8 @@ use aud_code::line::Last;
 use aud_code::sound_code::SoundCode;
 use aud_exc::propagation::find_handler;
 use aud_meaning::state::{Pending, StepKind};
-use aud_store::stack::{Purpose, Stack};
+use aud_store::purpose::Purpose;
+use aud_store::stack::Stack;
 use aud_text::place::Pos;
 
 /// Where a task stands, the exception that is pending, and its open frames.
@@ -94,7 +95,11 @@ impl Standing<'_> {
         match self.stack.construct() {
             Some(open) => match open.purpose {
                 Purpose::Block | Purpose::Procedure { .. } => Some(open.frame),
-                Purpose::Body | Purpose::Loop | Purpose::Accept { .. } => None,
+                Purpose::Body
+                | Purpose::Loop
+                | Purpose::Operation { .. }
+                | Purpose::Entry { .. }
+                | Purpose::Accept { .. } => None,
             },
             None => None,
         }
@@ -108,6 +113,7 @@ impl Standing<'_> {
             Some(open) => match open.purpose {
                 Purpose::Block | Purpose::Procedure { .. } => StepKind::Leave,
                 Purpose::Body | Purpose::Loop => StepKind::Complete,
+                Purpose::Operation { .. } | Purpose::Entry { .. } => StepKind::Finish,
                 Purpose::Accept { .. } => StepKind::Endaccept,
             },
             None => StepKind::Complete,

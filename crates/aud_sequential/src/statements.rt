@@ -8,12 +8,12 @@ ghost use Rattle.aud_sequential.specs.Shown.{plans_of};
 ghost use Rattle.aud_sequential.specs.Steps.{does, opened, looped, continued};
 
 use crate::progress::Progress;
-use crate::units::{level_of, region_of};
+use crate::units::{is_function, level_of, region_of};
 use aud_code::line::{Ending, ForLoop};
 use aud_code::sound_code::SoundCode;
 use aud_expr::operands::Operands;
 use aud_meaning::values::nearest_zero;
-use aud_store::stack::Purpose;
+use aud_store::purpose::Purpose;
 use aud_text::int32::Int32;
 use aud_text::place::Pos;
 use aud_text::raise::Raise;
@@ -73,11 +73,17 @@ impl Progress {
                 self.open(Purpose::Block, region, at, &[], 0, inside)?;
             }
             Ending::Return(way) => self.exit(way),
+            Ending::ReturnValue(way) => {
+                self.set_value(operands.pop());
+                self.exit(way);
+            }
             Ending::Call(number) => {
                 let level = level_of(units, number);
                 let region = region_of(units, number);
-                self.call(level, region, code.start(number), at, operands)?;
+                let is_function = is_function(units, number);
+                self.call(level, region, is_function, code.start(number), at, operands)?;
             }
+            Ending::OwnCall => self.raise(Exception::Predefined(Raise::Program), at),
         }
         Ok(())
     }

@@ -1,4 +1,4 @@
-// The bodies of a program's procedures, by their numbers.
+// The bodies of a program, by their numbers.
 
 ghost use Rattle.std.specs.Prelude.{◌≡◌};
 ghost use Rattle.aud_sequential.specs.Shown.{plans_of, unit_in};
@@ -23,6 +23,16 @@ pub(crate) fn region_of(units: &[Unit], number: usize) -> usize
     match units.get(number) {
         Some(unit) => unit.region,
         None => 0,
+    }
+}
+
+/// Whether it is a function's.
+pub fn is_function(units: &[Unit], number: usize) -> bool
+    ensures { result ≡ (unit_in (plans_of units.now) number).is_function }
+{
+    match units.get(number) {
+        Some(unit) => unit.is_function,
+        None => false,
     }
 }
 

@@ -2,6 +2,7 @@ pub mod Beside
 pub mod Changed
 pub mod Choosing
 pub mod Creating
+pub mod Deciding
 pub mod Evaluating
 pub mod Reading
 pub mod Running

@@ -6,3 +6,4 @@ pub mod Resting
 pub mod Held
 pub mod Queues
 pub mod Chosen
+pub mod Returning

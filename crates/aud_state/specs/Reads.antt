@@ -35,7 +35,7 @@ LeavesBy own master (simply w) = master ≡ None
 LeavesBy own master ending = master ≡ master_left_by (construct_left own)
 LeavesBy own master (selecting ones) = master ≡ None
 LeavesBy own master (calling task entry) = master ≡ None
-LeavesBy own master (starting object reading) = ⊥
+LeavesBy own master (starting object reading) = master ≡ None
 
 -- it is a step of this kind
 abbrev pub IsOfItsKind : Own → StepKind → Coming → Type 0
@@ -43,7 +43,7 @@ IsOfItsKind own kind (simply w) = kind ≡ w
 IsOfItsKind own kind ending = kind ≡ end_kind_by (construct_left own)
 IsOfItsKind own kind (selecting ones) = kind ≡ step.Select
 IsOfItsKind own kind (calling task entry) = kind ≡ step.Call
-IsOfItsKind own kind (starting object reading) = ⊥
+IsOfItsKind own kind (starting object reading) = kind ≡ step.Start
 
 -- the place that is shown for its own statements
 abbrev pub place_by : Flat → Option (TaskAt Spot) → Pos

@@ -1,10 +1,12 @@
 -- All tasks with what they share in memory, as a configuration.
-use Rattle.std.specs.Prelude.{ℕ, ℤ, List, [], ◌∷◌, ◌++◌, map, Option, Some, None, if◌then◌else◌}
+use Rattle.std.specs.Prelude.{ℕ, ℤ, List, [], ◌∷◌, ◌++◌, length, map, Option, Some, None, if◌then◌else◌}
 use Rattle.aud_text.specs.declared.raise.Raise.TheVariants.{Tasking}
 use Rattle.aud_typed.specs.declared.program.Exception.TheVariants.{Predefined}
 use Rattle.aud_meaning.specs.declared.state.Pending.{Pending}
+use Rattle.aud_meaning.specs.declared.state.Resumed.{Resumed}
+use Rattle.aud_meaning.specs.declared.state.Status.TheVariants.{Running}
 use Rattle.aud_meaning.specs.declared.state.CallState.TheVariants.{Selected}
-use Rattle.aud_meaning.specs.Effects.{handles, pends}
+use Rattle.aud_meaning.specs.Effects.{closed, handles, pends}
 use Rattle.aud_meaning.specs.Configuration.{TaskAt, All, Own}
 use Rattle.aud_meaning.specs.Configuration as meaning
 use Rattle.aud_meaning.specs.Orders.{Orders}
@@ -83,6 +85,13 @@ all_of tasks p kept objects = record {
   steps = p.steps;
 }
 
+-- one object more, whose bodies see these frames and that of its components, with these cells
+abbrev pub with_object : ℕ → List ℤ → List ℕ → meaning.Shared → meaning.Shared
+with_object declaration cells display s = record s {
+  frames = s.frames ++ cells ∷ [];
+  objects = s.objects ++ record { declaration = declaration; display = display ++ length s.frames ∷ []; actions = [] } ∷ [];
+}
+
 -- it goes on, and a part follows of what stands there
 abbrev pub resumes : Orders Spot → ℕ → TaskAt Spot → TaskAt Spot
 resumes go part t = record { control = go.takes part t.control; own = runs t.own }
@@ -90,6 +99,14 @@ resumes go part t = record { control = go.takes part t.control; own = runs t.own
 -- it goes on, with what the accept of this alternative does
 abbrev pub begins_accept : Orders Spot → ℕ → TaskAt Spot → TaskAt Spot
 begins_accept go alternative t = record { control = go.accepts alternative t.control; own = runs t.own }
+
+-- it is in an entry body, and what it waited for or had pending is set aside
+abbrev pub begins_entry : Orders Spot → ℕ → TaskAt Spot → TaskAt Spot
+begins_entry go unit t = record { control = go.enters unit t.control; own = record t.own { status = Running; pending = None; serving = None } }
+
+-- out of an entry body it goes back to what it was at
+abbrev pub goes_back : Resumed → Own → Own
+goes_back back own = record (closed own) { status = back.status; pending = back.pending }
 
 -- all activations have ended for which it waited
 abbrev pub goes_on_behind : Orders Spot → TaskAt Spot → TaskAt Spot

@@ -2,13 +2,13 @@
 
 ghost use Rattle.std.specs.Prelude.{◌≡◌, map, IfOk, OnOk};
 ghost use Rattle.aud_meaning.specs.declared.state.CallState.TheVariants.{Selected};
-ghost use Rattle.aud_meaning.specs.Parts.{arrives, call_number, cancels, new_call, on_call, queue, Waiting};
+ghost use Rattle.aud_meaning.specs.Parts.{arrives, call_number, call_of, calls_on_object, cancels, new_call, on_call, queue, Waiting};
 ghost use Rattle.aud_state.specs.Queues.{oldest};
 ghost use Rattle.aud_state.specs.View.{made_call};
 
 use crate::calls::NewCall;
 use crate::state::State;
-use std::alloc::AllocError;
+use std::alloc::{AllocError, Global};
 
 impl State {
     /// A call is made. It gives the call's number.
@@ -55,6 +55,24 @@ impl State {
         ensures { result ≡ oldest (queue owner entry self.now.shared.calls) }
     {
         self.calls.first(owner, entry)
+    }
+
+    /// The entry that a call names.
+    pub fn call_entry(&self, id: usize) -> usize
+        ensures { result ≡ (call_of id self.now).entry }
+    {
+        self.calls.entry(id)
+    }
+
+    /// The calls that are queued on an object's entries, by their numbers.
+    ///
+    /// # Errors
+    ///
+    /// Where memory is refused.
+    pub fn queued_on_object(&self, alloc: Global, object: usize) -> Result<Vec<usize>, AllocError>
+        ensures { IfOk result (λ ids. ids.items ≡ calls_on_object object self.now.shared.calls) }
+    {
+        self.calls.queued_on_object(alloc, object)
     }
 
     /// The calls that are queued on an entry, the one that waits for longest first.

@@ -1,7 +1,7 @@
 // Entry calls (RM 9.5.3).
 
 ghost use Rattle.std.specs.Prelude.{◌≡◌, ℕ, suc, [], ◌∷◌, ◌++◌, false, if◌then◌else◌, IfNone, IfOk, IfSome, OnOk, length, map, slice_index_or};
-ghost use Rattle.aud_meaning.specs.Parts.{calls_on_task, changed, contains, is_queued, no_call, owner_number, queue, Waiting};
+ghost use Rattle.aud_meaning.specs.Parts.{calls_on_object, calls_on_task, changed, contains, is_queued, no_call, owner_number, queue, Waiting};
 ghost use Rattle.aud_over.specs.Over.{calls_left};
 ghost use Rattle.aud_state.specs.Queues.{is_at, oldest, waiting, without};
 ghost use Rattle.aud_state.specs.View.{made_call, plain_call, plain_slot};
@@ -323,6 +323,16 @@ impl Calls {
         }
     }
 
+    /// The entry that it names.
+    pub(crate) fn entry(&self, id: usize) -> usize
+        ensures { result ≡ (slice_index_or self.now.calls id no_call).entry }
+    {
+        match self.kept(id) {
+            Some(call) => call.entry,
+            None => 0,
+        }
+    }
+
     /// How it was made.
     pub(crate) fn form(&self, id: usize) -> Form
         ensures { result ≡ (slice_index_or self.now.calls id no_call).form }
@@ -376,6 +386,17 @@ impl Calls {
     {
         queued_among(alloc, &self.calls, task)
     }
+
+    /// Those that are queued on an object's entries, by their numbers.
+    pub(crate) fn queued_on_object(
+        &self,
+        alloc: Global,
+        object: usize,
+    ) -> Result<Vec<usize>, AllocError>
+        ensures { IfOk result (λ ids. ids.items ≡ calls_on_object object self.now.calls) }
+    {
+        queued_at(alloc, &self.calls, object)
+    }
 }
 
 // Those of these calls that are over, but for the ones of these numbers, are given back.
@@ -397,6 +418,19 @@ fn queued_among(alloc: Global, calls: &[Slot], task: usize) -> Result<Vec<usize>
     let mut found = Vec::new(alloc);
     for (n, slot) in calls.iter().enumerate() {
         if slot.is_queued_on(task) {
+            found.push(n)?;
+        }
+    }
+    Ok(found)
+}
+
+// Of these calls those that are queued on an object's entries.
+fn queued_at(alloc: Global, calls: &[Slot], object: usize) -> Result<Vec<usize>, AllocError>
+    ensures { IfOk result (λ ids. ids.items ≡ calls_on_object object (map plain_slot calls.now)) }
+{
+    let mut found = Vec::new(alloc);
+    for (n, slot) in calls.iter().enumerate() {
+        if slot.is_queued_at(object) {
             found.push(n)?;
         }
     }

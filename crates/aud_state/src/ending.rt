@@ -34,8 +34,8 @@ impl State {
         self.calls.caller(id)
     }
 
-    // Where it stands.
-    fn call_at(&self, id: usize) -> Pos
+    /// Where it stands.
+    pub fn call_at(&self, id: usize) -> Pos
         ensures { result ≡ (call_of id self.now).at }
     {
         self.calls.at(id)

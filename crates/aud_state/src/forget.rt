@@ -78,8 +78,8 @@ impl Task {
         ensures { OnOk result ((id : ℕ) → contains id served.new.items ≡
             (contains id served.old.items || own_serves id (plain_task self.now).own)) }
     {
-        let accepted = self.parked.stack().accepts(alloc)?;
-        served.extend_from_slice(&accepted)?;
+        let own = self.parked.stack().served(alloc)?;
+        served.extend_from_slice(&own)?;
         Ok(())
     }
 

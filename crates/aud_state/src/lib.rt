@@ -2,7 +2,9 @@
 #![tactic(auto)]
 
 mod accepting;
+mod actions;
 mod alone;
+mod bodies;
 mod calling;
 pub mod calls;
 mod copies;

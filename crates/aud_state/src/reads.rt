@@ -283,8 +283,8 @@ impl State {
         }
     }
 
-    // How it was made.
-    fn call_form(&self, id: usize) -> Form
+    /// How a call was made.
+    pub fn call_form(&self, id: usize) -> Form
         ensures { result ≡ (call_of id self.now).form }
     {
         self.calls.form(id)

@@ -2,7 +2,7 @@
 
 ghost use Rattle.std.specs.Prelude.{◌≡◌, ◌&&◌, not, IfNone, IfOk, IfSome, OnOk};
 ghost use Rattle.aud_meaning.specs.declared.state.CallState.TheVariants.{Queued};
-ghost use Rattle.aud_meaning.specs.Parts.{is_queued, is_task, no_call};
+ghost use Rattle.aud_meaning.specs.Parts.{is_object, is_queued, is_task, no_call};
 ghost use Rattle.aud_over.specs.Over.{call_if, is_call_over};
 ghost use Rattle.aud_state.specs.View.{made_call, plain_call, plain_slot, IsKept};
 
@@ -82,6 +82,16 @@ impl Slot {
     {
         match (self.state(), self.owner()) {
             (CallState::Queued, Owner::Task(owner)) => owner == task,
+            _ => false,
+        }
+    }
+
+    /// Whether it is queued on an entry of this object.
+    pub(crate) fn is_queued_at(&self, object: usize) -> bool
+        ensures { result ≡ (is_queued (plain_slot self.now).state && is_object object (plain_slot self.now).owner) }
+    {
+        match (self.state(), self.owner()) {
+            (CallState::Queued, Owner::Object(owner)) => owner == object,
             _ => false,
         }
     }

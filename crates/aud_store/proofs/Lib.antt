@@ -9,3 +9,4 @@ pub mod Numbers
 pub mod Opened
 pub mod Placing
 pub mod Writes
+pub mod Valued

@@ -1,5 +1,5 @@
 -- The names of open frames in memory.
-use Rattle.std.proofs.Common.{◌≡◌, ℕ, zero, suc, ◌+◌, ◌-◌, ◌<◌, List, [], ◌∷◌, ◌++◌, Bool, true, false, ◌||◌, Option, Some, None, length, get_or, take, take_all, set, reverse, nat_eq, flat_map, sym, ap, ◌∙◌, refl, inl, inr, append_assoc, append-nil, arith}
+use Rattle.std.proofs.Common.{◌≡◌, ℕ, zero, suc, ◌+◌, ◌-◌, ◌<◌, List, [], ◌∷◌, ◌++◌, drop, Bool, true, false, ◌||◌, Option, Some, None, length, get_or, take, take_all, set, reverse, nat_eq, flat_map, sym, ap, ◌∙◌, refl, inl, inr, append_assoc, append-nil, arith}
 use Rattle.std.specs.Prelude.{slice_get}
 use Rattle.std.specs.Option.{option_to_list}
 use Rattle.std.proofs.lemmas.Bool.{or_cases, or_left, or_right}
@@ -7,11 +7,14 @@ use Rattle.std.proofs.lemmas.List.{flat_map_more, reverse-append, reverse-revers
 use Rattle.aud_meaning.specs.Configuration.{Back}
 use Rattle.aud_meaning.specs.Parts.{contains}
 use Rattle.aud_store.specs.declared.display.Replaced.{Replaced}
+use Rattle.aud_store.specs.declared.display.Replaced.TheVariants.{Among, Apart}
 use Rattle.aud_store.specs.declared.stack.Open.{Open}
-use Rattle.aud_store.specs.Ties.Display.{Display, seen, put_by, put_back, without_last}
+use Rattle.aud_store.specs.Ties.Display.{Display, number_of, seen, put_by, put_back}
 use Rattle.aud_meaning.specs.Ties.Named.{opened_name}
 use Rattle.aud_store.specs.Ties.Named.{names_of, NamesAll}
-use Rattle.aud_store.specs.Ties.Stored.{kept_of, outer_backs, plain_opened, ArePlaced}
+use Rattle.aud_store.specs.declared.purpose.Purpose.{Purpose}
+use Rattle.aud_store.specs.Ties.Stored.{kept_of, outer_backs, plain_opened, ArePlaced, IsPlacedBy}
+use Rattle.aud_store.proofs.Placing.{seen_apart}
 
 -- Numbers among others.
 
@@ -40,6 +43,14 @@ among_first f zero xs h = absurd (cc)
 among_first f (suc n) [] h = absurd (cc)
 among_first f (suc n) (x ∷ xs) h = or_else (nat_eq f x) (contains f (take n xs)) (nat_eq f x) (contains f xs) h (λ e. e) (λ e. among_first f n xs e)
 
+among_last : (f n : ℕ) (xs : List ℕ) → contains f (drop n xs) ≡ true → contains f xs ≡ true
+among_last f zero xs h = h
+among_last f (suc n) [] h = absurd (cc)
+among_last f (suc n) (x ∷ xs) h = or_right (nat_eq f x) (contains f xs) (among_last f n xs h)
+
+among_seen : (f : ℕ) (d : Display) → contains f (seen d) ≡ true → contains f d.numbers ≡ true
+among_seen f d h = among_last f d.base d.numbers (among_first f d.count (drop d.base d.numbers) h)
+
 among_set : (f : ℕ) (xs : List ℕ) (i n : ℕ) → contains f (set xs i n) ≡ true → (contains f xs || nat_eq f n) ≡ true
 among_set f [] i n h = absurd (cc)
 among_set f (x ∷ xs) zero n h = elim (or_cases (nat_eq f n) (contains f xs) h) [
@@ -52,9 +63,10 @@ among_set f (x ∷ xs) (suc i) n h = elim (or_cases (nat_eq f x) (contains f (se
 ]
 
 -- What comes back was there before, or an open frame stood in its place.
-was_there : (f : ℕ) (number : Option ℕ) (d : Display) → contains f (without_last number d) ≡ true → (contains f d.numbers || contains f (option_to_list number)) ≡ true
-was_there f None d h = or_left (contains f d.numbers) false (among_first f (length d.numbers - 1) d.numbers h)
-was_there f (Some n) d h = or_else (contains f d.numbers) (nat_eq f n) (contains f d.numbers) (nat_eq f n || false) (among_set f d.numbers (d.count - 1) n h) (λ e. e) (λ e. or_left (nat_eq f n) false e)
+was_there : (f : ℕ) (r : Replaced) (d : Display) → contains f (put_back r d).numbers ≡ true → (contains f d.numbers || contains f (option_to_list (number_of r))) ≡ true
+was_there f (Among None k) d h = or_left (contains f d.numbers) false (among_first f (length d.numbers - 1) d.numbers h)
+was_there f (Among (Some n) k) d h = or_else (contains f d.numbers) (nat_eq f n) (contains f d.numbers) (nat_eq f n || false) (among_set f d.numbers (d.base + d.count - 1) n h) (λ e. e) (λ e. or_left (nat_eq f n) false e)
+was_there f (Apart base k) d h = or_left (contains f d.numbers) false (among_first f d.base d.numbers h)
 
 -- of these open frames
 abbrev pub names_in : List Open → List ℕ
@@ -71,9 +83,9 @@ module _ (f : ℕ) (d : Display) (o : Open) (os : List Open) where
   named_behind h = or_right (contains f d.numbers) (contains f (names_in (o ∷ os))) (among_both f (names_of o) (names_in os) (or_right (contains f (names_of o)) (contains f (names_in os)) h))
 
   named_before : contains f (put_back o.replaced d).numbers ≡ true → Named
-  named_before h = elim (or_cases (contains f d.numbers) (contains f (option_to_list o.replaced.number)) (was_there f o.replaced.number d h)) [
+  named_before h = elim (or_cases (contains f d.numbers) (contains f (option_to_list (number_of o.replaced))) (was_there f o.replaced d h)) [
     | inl there ↦ or_left (contains f d.numbers) (contains f (names_in (o ∷ os))) there
-    | inr replaced ↦ named_by (or_right (nat_eq f o.frame) (contains f (option_to_list o.replaced.number)) replaced)
+    | inr replaced ↦ named_by (or_right (nat_eq f o.frame) (contains f (option_to_list (number_of o.replaced))) replaced)
   ]
 
 -- each name of open frames is among the numbers, or among theirs
@@ -83,9 +95,9 @@ opened_named f d (o ∷ os) bs h =
     let before = put_back o.replaced d in
     let rest = plain_opened before os (outer_backs o.purpose bs) in
     elim (or_cases (nat_eq f o.frame) (contains f (seen before) || opened_name f rest) h) [
-      | inl own ↦ named_by f d o os (or_left (nat_eq f o.frame) (contains f (option_to_list o.replaced.number)) own)
+      | inl own ↦ named_by f d o os (or_left (nat_eq f o.frame) (contains f (option_to_list (number_of o.replaced))) own)
       | inr other ↦ elim (or_cases (contains f (seen before)) (opened_name f rest) other) [
-        | inl saved ↦ named_before f d o os (among_first f before.count before.numbers saved)
+        | inl saved ↦ named_before f d o os (among_seen f before saved)
         | inr outer ↦ elim (or_cases (contains f before.numbers) (contains f (names_in os)) (opened_named f before os (outer_backs o.purpose bs) outer)) [
           | inl there ↦ named_before f d o os there
           | inr behind ↦ named_behind f d o os behind
@@ -138,31 +150,46 @@ module _ (f : ℕ) where
   opened_only : (d : Display) (o : Open) (os : List Open) (bs : List Back) → (nat_eq f o.frame || (contains f (seen (put_back o.replaced d)) || opened_name f (plain_opened (put_back o.replaced d) os (outer_backs o.purpose bs)))) ≡ true → IsNamed d (o ∷ os) bs
   opened_only d o os bs h = or_right (contains f (seen d)) (opened_name f (plain_opened d (o ∷ os) bs)) h
 
+  -- a number of its own, one from before, or one that it sees
+  stands_there : (r : Replaced) (frame : ℕ) (p : Purpose) (before d : Display) → IsPlacedBy r frame p before d → contains f d.numbers ≡ true → (contains f (seen d) || (contains f before.numbers || nat_eq f frame)) ≡ true
+  stands_there (Among number k) frame p before d is h =
+      let at = before.base + kept_of p before.count in
+      or_right (contains f (seen d)) (contains f before.numbers || nat_eq f frame) (among_put f (slice_get before.numbers at) at frame before.numbers (sym (ap (λ (x : Display). contains f x.numbers) is.0) ∙ h))
+  stands_there (Apart base k) frame p before d is h = elim (or_cases (contains f before.numbers) (contains f (is.0 ++ frame ∷ [])) (among_either f before.numbers (is.0 ++ frame ∷ []) (sym (ap (λ (x : Display). contains f x.numbers) is.1.0) ∙ h))) [
+    | inl there ↦ or_right (contains f (seen d)) (contains f before.numbers || nat_eq f frame) (or_left (contains f before.numbers) (nat_eq f frame) there)
+    | inr own ↦ or_left (contains f (seen d)) (contains f before.numbers || nat_eq f frame) (ap (contains f) (ap seen is.1.0 ∙ seen_apart is.0 frame before) ∙ own)
+  ]
+
   numbers_only : (d : Display) (os : List Open) (bs : List Back) → ArePlaced d os → contains f d.numbers ≡ true → IsNamed d os bs
-  numbers_only d [] bs are h = or_left (contains f (seen d)) false (ap (contains f) (take_all d.count d.numbers (omega (arith, are))) ∙ h)
+  numbers_only d [] bs are h = or_left (contains f (seen d)) false (ap (λ b. contains f (take d.count (drop b d.numbers))) are.0 ∙ ap (contains f) (take_all d.count d.numbers (omega (arith, are.1))) ∙ h)
   numbers_only d (o ∷ os) bs are h =
       let before = put_back o.replaced d in
-      let kept = kept_of o.purpose before.count in
       let rest = contains f (seen before) || opened_name f (plain_opened before os (outer_backs o.purpose bs)) in
-      let numbers = sym (ap (λ (x : Display). contains f x.numbers) are.0.0) ∙ h in
-      opened_only d o os bs (elim (or_cases (contains f before.numbers) (nat_eq f o.frame) (among_put f (slice_get before.numbers kept) kept o.frame before.numbers numbers)) [
-        | inl there ↦ or_right (nat_eq f o.frame) rest (numbers_only before os (outer_backs o.purpose bs) are.1 there)
-        | inr own ↦ or_left (nat_eq f o.frame) rest own
-      ])
+      elim (or_cases (contains f (seen d)) (contains f before.numbers || nat_eq f o.frame) (stands_there o.replaced o.frame o.purpose before d are.0 h)) [
+        | inl shown ↦ or_left (contains f (seen d)) (opened_name f (plain_opened d (o ∷ os) bs)) shown
+        | inr other ↦ opened_only d o os bs (elim (or_cases (contains f before.numbers) (nat_eq f o.frame) other) [
+          | inl there ↦ or_right (nat_eq f o.frame) rest (numbers_only before os (outer_backs o.purpose bs) are.1 there)
+          | inr own ↦ or_left (nat_eq f o.frame) rest own
+        ])
+      ]
+
+  -- what it stands in place of was there
+  replaced_there : (r : Replaced) (frame : ℕ) (p : Purpose) (before d : Display) → IsPlacedBy r frame p before d → contains f (option_to_list (number_of r)) ≡ true → contains f before.numbers ≡ true
+  replaced_there (Among number k) frame p before d is h = stood_there f before.numbers (before.base + kept_of p before.count) (sym (ap (λ (r : Replaced). contains f (option_to_list (number_of r))) is.1) ∙ h)
+  replaced_there (Apart base k) frame p before d is h = absurd (cc)
 
   open_only : (d : Display) (os : List Open) (bs : List Back) → ArePlaced d os → contains f (names_in os) ≡ true → opened_name f (plain_opened d os bs) ≡ true
   open_only d [] bs are h = absurd (cc)
   open_only d (o ∷ os) bs are h =
       let before = put_back o.replaced d in
-      let kept = kept_of o.purpose before.count in
       let outer = opened_name f (plain_opened before os (outer_backs o.purpose bs)) in
       let rest = contains f (seen before) || outer in
       elim (or_cases (contains f (names_of o)) (contains f (names_in os)) (among_either f (names_of o) (names_in os) h)) [
-        | inl this ↦ elim (or_cases (nat_eq f o.frame) (contains f (option_to_list o.replaced.number)) this) [
+        | inl this ↦ elim (or_cases (nat_eq f o.frame) (contains f (option_to_list (number_of o.replaced))) this) [
           | inl own ↦ or_left (nat_eq f o.frame) rest own
           | inr stood ↦ or_right (nat_eq f o.frame) rest (
               numbers_only before os (outer_backs o.purpose bs) are.1
-              (stood_there f before.numbers kept (sym (ap (λ (r : Replaced). contains f (option_to_list r.number)) are.0.1) ∙ stood)))
+              (replaced_there o.replaced o.frame o.purpose before d are.0 stood))
         ]
         | inr behind ↦ or_right (nat_eq f o.frame) rest (or_right (contains f (seen before)) outer (open_only before os (outer_backs o.purpose bs) are.1 behind))
       ]
@@ -185,7 +212,7 @@ module _ (f : ℕ) (old : List ℕ) (d : Display) (xs : List Open) (bs : List Ba
   told h = elim (or_cases (contains f old) (shown || opened) h) [
     | inl before ↦ in_front (among_both f old d.numbers (or_left (contains f old) (contains f d.numbers) before))
     | inr more ↦ elim (or_cases shown opened more) [
-      | inl seen_so ↦ numbered (among_first f d.count d.numbers seen_so)
+      | inl seen_so ↦ numbered (among_seen f d seen_so)
       | inr open_so ↦ elim (or_cases (contains f d.numbers) (contains f (names_in (reverse xs))) (opened_named f d (reverse xs) bs open_so)) [
         | inl there ↦ numbered there
         | inr own ↦ among_both f (old ++ d.numbers) (names_in xs) (or_right (contains f (old ++ d.numbers)) (contains f (names_in xs)) (among_turned f xs own))

@@ -5,8 +5,8 @@ use Rattle.std.proofs.lemmas.List.{reverse-append}
 use Rattle.aud_meaning.specs.Configuration.{Back, Opened}
 use Rattle.aud_meaning.specs.Effects.{outermost}
 use Rattle.aud_meaning.specs.Parts.{is_master}
-use Rattle.aud_store.specs.declared.stack.Purpose.{Purpose}
-use Rattle.aud_store.specs.declared.stack.Purpose.TheVariants.{Accept, Body, Block, Loop, Procedure}
+use Rattle.aud_store.specs.declared.purpose.Purpose.{Purpose}
+use Rattle.aud_store.specs.declared.purpose.Purpose.TheVariants.{Accept, Body, Block, Entry, Loop, Operation, Procedure}
 use Rattle.aud_store.specs.declared.stack.Open.{Open}
 use Rattle.aud_store.specs.Ties.Display.{Display, seen, put_back}
 use Rattle.aud_store.specs.Ties.Stored.{own_backs, outer_backs, plain_open, plain_opened}
@@ -21,7 +21,9 @@ same_master o Body saved bs = refl
 same_master o Block saved bs = refl
 same_master o Loop saved bs = refl
 same_master o (Accept call) saved bs = refl
-same_master o (Procedure level n into) saved bs = refl
+same_master o (Procedure level r) saved bs = refl
+same_master o (Operation object r) saved bs = refl
+same_master o (Entry object call served resumed) saved bs = refl
 
 abbrev pub is_open_master : Open → Bool
 is_open_master o = is_master (plain_open o [] [])

@@ -1,8 +1,8 @@
 -- Open frames in memory, of which the innermost one is the last.
-use Rattle.std.proofs.Common.{◌≡◌, if◌then◌else◌, filter, Option, Some, None, Result, Bool, cond, not, ℕ, zero, suc, ◌-◌, ◌<◌, ◌≤◌, true, false, List, [], ◌∷◌, ◌++◌, length, drop, reverse, slice_index_or, slice_set, refl, ap, sym, subst, ◌∙◌, arith, length-append}
+use Rattle.std.proofs.Common.{◌≡◌, if◌then◌else◌, filter, Option, Some, None, Result, Bool, cond, not, ◌||◌, ℕ, zero, suc, ◌-◌, ◌<◌, ◌≤◌, true, false, List, [], ◌∷◌, ◌++◌, length, drop, reverse, slice_index_or, slice_set, refl, ap, sym, subst, ◌∙◌, arith, length-append}
 use Rattle.std.specs.Option.{is_some, option_and_then}
-use Rattle.std.specs.List.{cons_option, filter_map, find}
-use Rattle.std.proofs.lemmas.List.{drop_all, drop_at, length-reverse, length-take, reverse-append, take_at}
+use Rattle.std.specs.List.{cons_option, filter_map, find, list_any}
+use Rattle.std.proofs.lemmas.List.{drop_all, drop_at, length-reverse, reverse-append, take_at}
 use Rattle.aud_text.specs.declared.raise.Raise.{Raise}
 use Rattle.aud_typed.specs.declared.program.Exception.{Exception}
 use Rattle.aud_typed.specs.Tree.{Plan}
@@ -11,13 +11,14 @@ use Rattle.aud_meaning.specs.Effects.{changed_first, handled, is_counted, is_loo
 use Rattle.aud_meaning.specs.Evaluation.{Sight}
 use Rattle.aud_meaning.specs.Listings.{is_served}
 use Rattle.aud_meaning.specs.Parts.{any}
-use Rattle.aud_store.specs.declared.stack.Purpose.{Purpose}
-use Rattle.aud_store.specs.declared.stack.Purpose.TheVariants.{Accept, Body, Block, Loop, Procedure}
+use Rattle.aud_store.specs.declared.purpose.Purpose.{Purpose}
+use Rattle.aud_store.specs.declared.purpose.Purpose.TheVariants.{Accept, Body, Block, Entry, Loop, Operation, Procedure}
 use Rattle.aud_store.specs.declared.display.Replaced.{Replaced}
+use Rattle.aud_store.specs.declared.display.Replaced.TheVariants.{Among, Apart}
 use Rattle.aud_store.specs.declared.stack.Open.{Open}
-use Rattle.aud_store.specs.Ties.Display.{Display, seen, placed, stands, put_back}
-use Rattle.aud_store.specs.Ties.Stored.{accepted_by, accepted_for, accepted_in, copies_of, kept_by, kept_of, purpose_backs, innermost_backs, own_backs, outer_backs, plain_open, plain_opened, plain_purpose, served_by, served_in, ArePlaced, IsPlaced, IsInnermost}
-use Rattle.aud_store.proofs.Placing.{back_again, seen_placed, within}
+use Rattle.aud_store.specs.Ties.Display.{Display, end_of, seen, placed, set_apart, stands, stands_apart, put_back}
+use Rattle.aud_store.specs.Ties.Stored.{accepted_by, accepted_for, accepted_in, copies_of, kept_by, kept_of, purpose_backs, innermost_backs, own_backs, outer_backs, is_served_for, plain_open, plain_opened, plain_purpose, served_by, served_for, served_in, ArePlaced, IsPlaced, IsPlacedBy, IsInnermost}
+use Rattle.aud_store.proofs.Placing.{apart_again, apart_within, back_again, placed_within, seen_apart, seen_placed}
 use Rattle.aud_meaning.specs.Ties.Stack.{Stack, closed, out_of_loops_by}
 
 -- whatever they copy back, those of accepts are not counted
@@ -28,7 +29,9 @@ same_counted : (p : Purpose) (bs : List Back) → is_counted (plain_purpose p bs
 same_counted Body bs = refl
 same_counted Block bs = refl
 same_counted Loop bs = refl
-same_counted (Procedure level n into) bs = refl
+same_counted (Procedure level r) bs = refl
+same_counted (Operation object r) bs = refl
+same_counted (Entry object call served resumed) bs = refl
 same_counted (Accept call) bs = refl
 
 one_more : (b : Bool) (n : ℕ) (o : Open) (os : List Open) → n ≡ length os → (if b then suc n else n) ≡ length (cond b (o ∷ os) os)
@@ -87,7 +90,7 @@ pub record IsSame (x y : Open) : Type 0 where
 
 -- placed where it is, of this number, for this, and in place of this
 abbrev Placed : Display → List Open → ℕ → Purpose → Replaced → Type 0
-Placed d os frame p r = ((d ≡ placed (kept_of p (put_back r d).count) frame (put_back r d)) × (r ≡ stands (kept_of p (put_back r d).count) (put_back r d))) × ArePlaced (put_back r d) os
+Placed d os frame p r = IsPlacedBy r frame p (put_back r d) d × ArePlaced (put_back r d) os
 
 -- then it is placed as the other one was
 pub placed_turned : (d : Display) (xs : List Open) (n : ℕ) (x y : Open) → IsLast xs n x → IsSame x y → ArePlaced d (reverse xs) → ArePlaced d (reverse (slice_set xs (n - 1) y))
@@ -138,27 +141,32 @@ pub same_loop : (p : Purpose) (bs : List Back) → is_loop (plain_purpose p bs) 
 same_loop Body bs = refl
 same_loop Block bs = refl
 same_loop Loop bs = refl
-same_loop (Procedure level n into) bs = refl
+same_loop (Procedure level r) bs = refl
+same_loop (Operation object r) bs = refl
+same_loop (Entry object call served resumed) bs = refl
 same_loop (Accept call) bs = refl
 
--- as many as count
-seen_many : (d : Display) → d.count ≤ length d.numbers → d.count ≡ length (seen d)
-seen_many d h = omega (arith, h, length-take d.count d.numbers)
-
 -- so many numbers are there
-held : (d : Display) (os : List Open) → ArePlaced d os → d.count ≤ length d.numbers
-held d [] are = omega (arith, are)
-held d (o ∷ os) are =
-    let before = put_back o.replaced d in
-    let s = seen_placed o.purpose o.frame before (seen before) refl (seen_many before (held before os are.1)) in
-    subst (λ (x : Display). x.count ≤ length x.numbers) (sym are.0.0) (within (placed (kept_of o.purpose before.count) o.frame before) (kept_by o.purpose (seen before) ++ o.frame ∷ []) s.0 s.1)
+held_by : (r : Replaced) (frame : ℕ) (p : Purpose) (before d : Display) → IsPlacedBy r frame p before d → end_of before ≤ length before.numbers → end_of d ≤ length d.numbers
+held_by (Among number seen) frame p before d is fits = subst (λ (x : Display). end_of x ≤ length x.numbers) (sym is.0) (placed_within p frame before fits)
+held_by (Apart base seen) frame p before d is fits = subst (λ (x : Display). end_of x ≤ length x.numbers) (sym is.1.0) (apart_within is.0 frame before)
+
+held : (d : Display) (os : List Open) → ArePlaced d os → end_of d ≤ length d.numbers
+held d [] are = omega (arith, are.0, are.1)
+held d (o ∷ os) are = held_by o.replaced o.frame o.purpose (put_back o.replaced d) d are.0 (held (put_back o.replaced d) os are.1)
+
+some_by : (r : Replaced) (frame : ℕ) (p : Purpose) (before d : Display) → IsPlacedBy r frame p before d → 0 < d.count
+some_by (Among number seen) frame p before d is = let many = ap (λ (x : Display). x.count) is.0 in omega (arith, many)
+some_by (Apart base seen) frame p before d is = let many = ap (λ (x : Display). x.count) is.1.0 in omega (arith, many)
 
 -- the calls of accepts
 accepts_by : (p : Purpose) (bs : List Back) (ids : List ℕ) → accepted_by (plain_purpose p bs) ids ≡ cons_option (accepted_for p) ids
 accepts_by Body bs ids = refl
 accepts_by Block bs ids = refl
 accepts_by Loop bs ids = refl
-accepts_by (Procedure level n into) bs ids = refl
+accepts_by (Procedure level r) bs ids = refl
+accepts_by (Operation object r) bs ids = refl
+accepts_by (Entry object call served resumed) bs ids = refl
 accepts_by (Accept call) bs ids = refl
 
 pub accepts_plain : (d : Display) (os : List Open) (bs : List Back) → accepted_in (plain_opened d os bs) ≡ filter_map (λ o. accepted_for o.purpose) os
@@ -167,36 +175,39 @@ accepts_plain d (o ∷ os) bs =
     accepts_by o.purpose (own_backs o.purpose bs) (accepted_in (plain_opened (put_back o.replaced d) os (outer_backs o.purpose bs)))
     ∙ ap (cons_option (accepted_for o.purpose)) (accepts_plain (put_back o.replaced d) os (outer_backs o.purpose bs))
 
--- and no others
-served_as : (p : Purpose) (bs : List Back) (ids : List ℕ) → served_by (plain_purpose p bs) ids ≡ accepted_by (plain_purpose p bs) ids
-served_as Body bs ids = refl
-served_as Block bs ids = refl
-served_as Loop bs ids = refl
-served_as (Procedure level n into) bs ids = refl
-served_as (Accept call) bs ids = refl
+-- those of entry bodies too
+serves_by : (p : Purpose) (bs : List Back) (ids : List ℕ) → served_by (plain_purpose p bs) ids ≡ cons_option (served_for p) ids
+serves_by Body bs ids = refl
+serves_by Block bs ids = refl
+serves_by Loop bs ids = refl
+serves_by (Procedure level r) bs ids = refl
+serves_by (Operation object r) bs ids = refl
+serves_by (Entry object call served resumed) bs ids = refl
+serves_by (Accept call) bs ids = refl
 
-pub served_plain : (d : Display) (os : List Open) (bs : List Back) → served_in (plain_opened d os bs) ≡ accepted_in (plain_opened d os bs)
+pub served_plain : (d : Display) (os : List Open) (bs : List Back) → served_in (plain_opened d os bs) ≡ filter_map (λ o. served_for o.purpose) os
 served_plain d [] bs = refl
 served_plain d (o ∷ os) bs =
-    let more = plain_opened (put_back o.replaced d) os (outer_backs o.purpose bs) in
-    served_as o.purpose (own_backs o.purpose bs) (served_in more)
-    ∙ ap (accepted_by (plain_purpose o.purpose (own_backs o.purpose bs))) (served_plain (put_back o.replaced d) os (outer_backs o.purpose bs))
+    serves_by o.purpose (own_backs o.purpose bs) (served_in (plain_opened (put_back o.replaced d) os (outer_backs o.purpose bs)))
+    ∙ ap (cons_option (served_for o.purpose)) (served_plain (put_back o.replaced d) os (outer_backs o.purpose bs))
 
--- no entry body is under way
+-- whether one of them is an entry body for another task's call
 module _ (plan : Plan) (barrier : ℕ → Sight → Result Bool Raise) where
-  pub none_served : (d : Display) (os : List Open) (bs : List Back) → any (is_served plan barrier) (plain_opened d os bs) ≡ false
-  none_served d [] bs = refl
-  none_served d (o ∷ os) bs = by o.purpose (none_served (put_back o.replaced d) os (outer_backs o.purpose bs))
+  pub any_served : (d : Display) (os : List Open) (bs : List Back) → any (is_served plan barrier) (plain_opened d os bs) ≡ list_any (λ (o : Open). is_served_for o.purpose) os
+  any_served d [] bs = refl
+  any_served d (o ∷ os) bs = by o.purpose ∙ ap (λ b. is_served_for o.purpose || b) (any_served (put_back o.replaced d) os (outer_backs o.purpose bs))
     where
-      rest : Purpose → List Opened
-      rest p = plain_opened (put_back o.replaced d) os (outer_backs p bs)
+      rest : List Opened
+      rest = plain_opened (put_back o.replaced d) os (outer_backs o.purpose bs)
 
-      by : (p : Purpose) → any (is_served plan barrier) (rest p) ≡ false → any (is_served plan barrier) (plain_opened d (record o { purpose = p } ∷ os) bs) ≡ false
-      by Body none = none
-      by Block none = none
-      by Loop none = none
-      by (Procedure level n into) none = none
-      by (Accept call) none = none
+      by : (p : Purpose) → any (is_served plan barrier) (plain_open (record o { purpose = p }) (seen (put_back o.replaced d)) (own_backs o.purpose bs) ∷ rest) ≡ (is_served_for p || any (is_served plan barrier) rest)
+      by Body = refl
+      by Block = refl
+      by Loop = refl
+      by (Procedure level r) = refl
+      by (Operation object r) = refl
+      by (Entry object call served resumed) = refl
+      by (Accept call) = refl
 
 -- the first of them that is no loop's
 abbrev is_construct : Open → Bool
@@ -216,7 +227,9 @@ first_construct d (o ∷ os) bs display = by o.purpose (first_construct before o
     by Body outer = (seen before, (own_backs Body bs, (rest Body, refl)))
     by Block outer = (seen before, (own_backs Block bs, (rest Block, refl)))
     by Loop outer = outer
-    by (Procedure level n into) outer = (seen before, (own_backs (Procedure level n into) bs, (rest (Procedure level n into), refl)))
+    by (Procedure level r) outer = (seen before, (own_backs (Procedure level r) bs, (rest (Procedure level r), refl)))
+    by (Operation object r) outer = (seen before, (own_backs (Operation object r) bs, (rest (Operation object r), refl)))
+    by (Entry object call served resumed) outer = (seen before, (own_backs (Entry object call served resumed) bs, (rest (Entry object call served resumed), refl)))
     by (Accept call) outer = (seen before, (own_backs (Accept call) bs, (rest (Accept call), refl)))
 
 -- One more is opened, and the innermost one is left.
@@ -237,16 +250,41 @@ module _ (old new : Display) (os : List Open) (p : Purpose) (frame kept : ℕ) (
   pub some_placed : 0 < new.count
   some_placed = let count = ap (λ (d : Display). d.count) is in omega (arith, count)
 
-  pub room_again : r.seen ≤ length (put_back r new).numbers
-  room_again =
-      let seen_before = ap (λ (x : Replaced). x.seen) replaced in
-      subst (λ (d : Display). r.seen ≤ length d.numbers) (sym given_up) (omega (arith, seen_before, held old os are))
+  pub room_again : end_of (put_back r new) ≤ length (put_back r new).numbers
+  room_again = subst (λ (d : Display). end_of d ≤ length d.numbers) (sym given_up) (held old os are)
 
-pub placed_more : (old new : Display) (xs ys : List Open) (o : Open) → ArePlaced old (reverse xs) → ys ≡ xs ++ o ∷ [] → new ≡ placed (kept_of o.purpose old.count) o.frame old → o.replaced ≡ stands (kept_of o.purpose old.count) old → ArePlaced new (reverse ys)
-placed_more old new xs ys o are more is replaced =
-    let back = given_up old new (reverse xs) o.purpose o.frame (kept_of o.purpose old.count) o.replaced are refl is replaced in
+-- so does one that was set apart
+module _ (old new : Display) (os : List Open) (numbers : List ℕ) (frame : ℕ) (r : Replaced) (are : ArePlaced old os) (is : new ≡ set_apart numbers frame old) (replaced : r ≡ stands_apart old) where
+  pub given_up_apart : put_back r new ≡ old
+  given_up_apart = ap (λ x. put_back x new) replaced ∙ ap (λ d. put_back (stands_apart old) d) is ∙ apart_again numbers frame old
+
+  pub some_apart : 0 < new.count
+  some_apart = let count = ap (λ (d : Display). d.count) is in omega (arith, count)
+
+  pub room_apart : end_of (put_back r new) ≤ length (put_back r new).numbers
+  room_apart = subst (λ (d : Display). end_of d ≤ length d.numbers) (sym given_up_apart) (held old os are)
+
+-- it is placed behind those that it sees, or behind others
+pub data Enters (old new : Display) (o : Open) (seen_from : List ℕ) : Type 0 where
+  among : new ≡ placed (kept_of o.purpose old.count) o.frame old → o.replaced ≡ stands (kept_of o.purpose old.count) old → seen_from ≡ kept_by o.purpose (seen old) → Enters old new o seen_from
+  apart : new ≡ set_apart seen_from o.frame old → o.replaced ≡ stands_apart old → Enters old new o seen_from
+
+back_by : (old new : Display) (os : List Open) (o : Open) (s : List ℕ) → ArePlaced old os → Enters old new o s → put_back o.replaced new ≡ old
+back_by old new os o s are (among is replaced from) = given_up old new os o.purpose o.frame (kept_of o.purpose old.count) o.replaced are refl is replaced
+back_by old new os o s are (apart is replaced) = given_up_apart old new os s o.frame o.replaced are is replaced
+
+shown_by : (old new : Display) (os : List Open) (o : Open) (s : List ℕ) → ArePlaced old os → Enters old new o s → seen new ≡ s ++ o.frame ∷ []
+shown_by old new os o s are (among is replaced from) = ap seen is ∙ seen_placed o.purpose o.frame old (held old os are) ∙ ap (λ l. l ++ o.frame ∷ []) (sym from)
+shown_by old new os o s are (apart is replaced) = ap seen is ∙ seen_apart s o.frame old
+
+placed_by : (old new : Display) (o : Open) (s : List ℕ) → Enters old new o s → IsPlaced o old new
+placed_by old new o s (among is replaced from) = subst (λ r. IsPlacedBy r o.frame o.purpose old new) (sym replaced) (is, refl)
+placed_by old new o s (apart is replaced) = subst (λ r. IsPlacedBy r o.frame o.purpose old new) (sym replaced) (s, (is, refl))
+
+pub placed_more : (old new : Display) (xs ys : List Open) (o : Open) (s : List ℕ) → ArePlaced old (reverse xs) → ys ≡ xs ++ o ∷ [] → Enters old new o s → ArePlaced new (reverse ys)
+placed_more old new xs ys o s are more enters =
     subst (ArePlaced new) (sym (ap reverse more ∙ reversed_more xs o)) (
-    subst (λ (d : Display). IsPlaced o d new × ArePlaced d (reverse xs)) (sym back) ((is, replaced), are))
+    subst (λ (d : Display). IsPlaced o d new × ArePlaced d (reverse xs)) (sym (back_by old new (reverse xs) o s are enters)) (placed_by old new o s enters, are))
 
 -- the copies of a call stand behind the others
 own_of_more : (p : Purpose) (bs own : List Back) → copies_of p ≡ length own → (own_backs p (bs ++ own) ≡ own) × (outer_backs p (bs ++ own) ≡ bs)
@@ -254,17 +292,17 @@ own_of_more p bs own many =
     let before : length (bs ++ own) - copies_of p ≡ length bs = omega (arith, many, length-append bs own) in
     (drop_at bs own (length (bs ++ own) - copies_of p) (sym before), take_at bs own (length (bs ++ own) - copies_of p) (sym before))
 
-pub opened_more : (old new : Display) (xs ys : List Open) (o : Open) (bs own all : List Back) → ArePlaced old (reverse xs) → ys ≡ xs ++ o ∷ [] → new ≡ placed (kept_of o.purpose old.count) o.frame old → o.replaced ≡ stands (kept_of o.purpose old.count) old → all ≡ bs ++ own → copies_of o.purpose ≡ length own →
-    stack_of (seen new) (plain_opened new (reverse ys) all) ≡ stack_of (kept_by o.purpose (seen old) ++ o.frame ∷ []) (plain_open o (seen old) own ∷ plain_opened old (reverse xs) bs)
-opened_more old new xs ys o bs own all are more is replaced added many =
-    let back = given_up old new (reverse xs) o.purpose o.frame (kept_of o.purpose old.count) o.replaced are refl is replaced in
+pub opened_more : (old new : Display) (xs ys : List Open) (o : Open) (s : List ℕ) (bs own all : List Back) → ArePlaced old (reverse xs) → ys ≡ xs ++ o ∷ [] → Enters old new o s → all ≡ bs ++ own → copies_of o.purpose ≡ length own →
+    stack_of (seen new) (plain_opened new (reverse ys) all) ≡ stack_of (s ++ o.frame ∷ []) (plain_open o (seen old) own ∷ plain_opened old (reverse xs) bs)
+opened_more old new xs ys o s bs own all are more enters added many =
+    let back = back_by old new (reverse xs) o s are enters in
     let backs = own_of_more o.purpose bs own many in
-    let shown = ap seen is ∙ (seen_placed o.purpose o.frame old (seen old) refl (seen_many old (held old (reverse xs) are))).0 in
+    let shown = shown_by old new (reverse xs) o s are enters in
     let opened = ap (λ l. plain_opened new l all) (ap reverse more ∙ reversed_more xs o) ∙ ap (λ l. plain_opened new (o ∷ reverse xs) l) added
     ∙ ap (λ (d : Display). plain_open o (seen d) (own_backs o.purpose (bs ++ own)) ∷ plain_opened d (reverse xs) (outer_backs o.purpose (bs ++ own))) back
     ∙ ap (λ l. plain_open o (seen old) l ∷ plain_opened old (reverse xs) (outer_backs o.purpose (bs ++ own))) backs.0
     ∙ ap (λ l. plain_open o (seen old) own ∷ plain_opened old (reverse xs) l) backs.1 in
-    ap (λ s. stack_of s (plain_opened new (reverse ys) all)) shown ∙ ap (stack_of (kept_by o.purpose (seen old) ++ o.frame ∷ [])) opened
+    ap (λ l. stack_of l (plain_opened new (reverse ys) all)) shown ∙ ap (stack_of (s ++ o.frame ∷ [])) opened
 
 -- the last one, and those before it
 module _ (old : Display) (xs ys : List Open) (o : Open) (are : ArePlaced old (reverse xs)) (last : xs ≡ ys ++ o ∷ []) where
@@ -272,9 +310,9 @@ module _ (old : Display) (xs ys : List Open) (o : Open) (are : ArePlaced old (re
   before = subst (ArePlaced old) (ap reverse last ∙ reversed_more ys o) are
 
   pub some_seen : 0 < old.count
-  some_seen = let many = ap (λ (d : Display). d.count) before.0.0 in omega (arith, many)
+  some_seen = some_by o.replaced o.frame o.purpose (put_back o.replaced old) old before.0
 
-  pub room_behind : o.replaced.seen ≤ length (put_back o.replaced old).numbers
+  pub room_behind : end_of (put_back o.replaced old) ≤ length (put_back o.replaced old).numbers
   room_behind = held (put_back o.replaced old) (reverse ys) before.1
 
   pub left_numbers : (new : Display) → new ≡ put_back o.replaced old → ArePlaced new (reverse ys)
@@ -292,7 +330,9 @@ own_copies Body bs = drop_all (length bs - 0) bs (omega arith)
 own_copies Block bs = drop_all (length bs - 0) bs (omega arith)
 own_copies Loop bs = drop_all (length bs - 0) bs (omega arith)
 own_copies (Accept call) bs = drop_all (length bs - 0) bs (omega arith)
-own_copies (Procedure level n into) bs = refl
+own_copies (Entry object call served resumed) bs = drop_all (length bs - 0) bs (omega arith)
+own_copies (Operation object r) bs = refl
+own_copies (Procedure level r) bs = refl
 
 -- those that the innermost one copies back
 pub backs_of_last : (d : Display) (xs : List Open) (n : ℕ) (x : Open) (bs : List Back) → IsLast xs n x → drop (length bs - copies_of x.purpose) bs ≡ innermost_backs (plain_opened d (reverse xs) bs)

@@ -4,6 +4,7 @@
 mod cells;
 pub mod display;
 pub mod frames;
+pub mod purpose;
 mod shelf;
 pub mod stack;
 pub mod store;

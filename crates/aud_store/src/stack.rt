@@ -1,99 +1,31 @@
 // The open frames, which lie in one another.
 
 ghost use Rattle.std.specs.Prelude.{◌≡◌, ℕ, suc, [], ◌++◌, None, Bool, Result, filter, length, map, nat_le, reverse, take, IfOk, OnOk, OnErr};
-ghost use Rattle.std.specs.List.{filter_map};
+ghost use Rattle.std.specs.List.{filter_map, list_any};
 ghost use Rattle.aud_text.specs.declared.limits.TheConstants.{FRAMES};
 ghost use Rattle.aud_text.specs.declared.raise.Raise.{Raise as RaiseOf};
 ghost use Rattle.aud_typed.specs.Tree.{Plan};
-ghost use Rattle.aud_meaning.specs.Effects.{elaborated_in, handled, innermost, is_counted, is_loop, live_frames, outermost};
+ghost use Rattle.aud_meaning.specs.Effects.{elaborated_in, handled, innermost, is_counted, live_frames, outermost};
 ghost use Rattle.aud_meaning.specs.Evaluation.{Sight};
 ghost use Rattle.aud_meaning.specs.Listings.{is_served};
 ghost use Rattle.aud_meaning.specs.Parts.{any, is_master};
 ghost use Rattle.aud_meaning.specs.Ties.Stack.{closed, closed_times, opens_after, out_of_loops};
 ghost use Rattle.aud_store.specs.Ties.Extents.{extent, extent_in};
 ghost use Rattle.aud_store.specs.Ties.Named.{names_of, NamesAll};
-ghost use Rattle.aud_store.specs.Ties.Stored.{accepted_for, accepted_in, copies_of, innermost_backs, is_in_loop, kept_by, kept_of};
-ghost use Rattle.aud_store.specs.Ties.Stored.{plain_open, plain_purpose, served_in, with_handling, with_elaborated};
+ghost use Rattle.aud_store.specs.Ties.Stored.{accepted_for, accepted_in, copies_of, innermost_backs, is_in_loop, is_served_for, kept_by};
+ghost use Rattle.aud_store.specs.Ties.Stored.{plain_open, plain_purpose, served_for, served_in, valued, with_function_value};
+ghost use Rattle.aud_store.specs.Ties.Stored.{with_handling, with_elaborated};
 ghost use Rattle.aud_store.specs.Ties.Stored.{IsInnermost};
 
 use crate::display::{Display, Replaced};
-use crate::target::{Back, Target};
+use crate::purpose::Purpose;
+use crate::target::Back;
+use aud_text::int32::Int32;
 use aud_text::limits::FRAMES;
 use aud_text::place::Pos;
 use aud_typed::program::Exception;
 use std::alloc::{AllocError, Global};
 use std::marker::Model;
-
-/// What a frame was opened for.
-#[derive(Clone, Copy, PartialEq, Eq)]
-pub enum Purpose {
-    Body,
-    Block,
-    Loop,
-    /// A procedure's body, which sees so many frames besides its own, and at whose end so many formals are copied back; and the
-    /// target that its call found besides, where it found one.
-    Procedure {
-        level: usize,
-        backs: usize,
-        into: Option<Target>,
-    },
-    /// What an accept does, for the call of this number.
-    Accept {
-        call: usize,
-    },
-}
-
-impl Purpose {
-    fn is_loop(&self) -> bool
-        ensures { result ≡ is_loop (plain_purpose self.now []) }
-    {
-        match self {
-            Purpose::Loop => true,
-            Purpose::Body | Purpose::Block | Purpose::Procedure { .. } | Purpose::Accept { .. } =>
-                false,
-        }
-    }
-
-    // How many formals are copied back.
-    fn copies(&self) -> usize
-        ensures { result ≡ copies_of self.now }
-    {
-        match self {
-            Purpose::Procedure { backs, .. } => *backs,
-            Purpose::Body | Purpose::Block | Purpose::Loop | Purpose::Accept { .. } => 0,
-        }
-    }
-
-    // How many frames are still seen, of so many.
-    fn kept(&self, seen: usize) -> usize
-        ensures { result ≡ kept_of self.now seen }
-    {
-        match self {
-            Purpose::Procedure { level, .. } => (*level).min(seen),
-            Purpose::Body | Purpose::Block | Purpose::Loop | Purpose::Accept { .. } => seen,
-        }
-    }
-
-    // Whether it is counted among the frames that a task may have.
-    fn is_counted(&self) -> bool
-        ensures { result ≡ is_counted (plain_purpose self.now []) }
-    {
-        match self {
-            Purpose::Body | Purpose::Block | Purpose::Loop | Purpose::Procedure { .. } => true,
-            Purpose::Accept { .. } => false,
-        }
-    }
-
-    // The call of an accept.
-    fn accepted(&self) -> Option<usize>
-        ensures { result ≡ accepted_for self.now }
-    {
-        match self {
-            Purpose::Accept { call } => Some(*call),
-            Purpose::Body | Purpose::Block | Purpose::Loop | Purpose::Procedure { .. } => None,
-        }
-    }
-}
 
 /// An open frame: its number, the table of its variables, how many of their names are elaborated; the exception that its
 /// construct handles; the place of the statement that opened it, and what for; what its number stands in place of.
@@ -115,7 +47,10 @@ impl Open {
     {
         match self.purpose {
             Purpose::Body | Purpose::Block | Purpose::Procedure { .. } => true,
-            Purpose::Loop | Purpose::Accept { .. } => false,
+            Purpose::Loop
+            | Purpose::Operation { .. }
+            | Purpose::Entry { .. }
+            | Purpose::Accept { .. } => false,
         }
     }
 
@@ -124,7 +59,7 @@ impl Open {
         ensures { OnOk result (into.new.items ≡ into.old.items ++ names_of self.now) }
     {
         into.push(self.frame)?;
-        let Some(number) = self.replaced.number else {
+        let Some(number) = self.replaced.number() else {
             return Ok(());
         };
         into.push(number)?;
@@ -219,6 +154,41 @@ impl Stack {
         Ok(())
     }
 
+    /// A frame of this number is opened that sees the frames of a display, and no other besides its own.
+    pub(crate) fn enter_apart(
+        &mut self,
+        purpose: Purpose,
+        backs: &[Back],
+        display: &[usize],
+        frame: usize,
+        region: usize,
+        at: Pos,
+        elaborated: usize,
+    ) -> Result<(), AllocError>
+        requires copies { copies_of purpose ≡ length backs.now }
+        ensures entered { OnOk result (self.new ≡
+            opens_after (plain_purpose purpose backs.now) frame region at elaborated
+            display.now self.old) }
+        ensures kept { OnErr result (self.new ≡ self.old) }
+    {
+        self.opened.reserve(1)?;
+        let replaced = self.display.enter_apart(display, frame)?;
+        if let Err(failure) = self.backs.extend_from_slice(backs) {
+            self.display.leave(replaced);
+            return Err(failure);
+        }
+        self.opened.push(Open {
+            frame,
+            region,
+            elaborated,
+            handling: None,
+            at,
+            purpose,
+            replaced,
+        })?;
+        Ok(())
+    }
+
     /// The innermost one is left.
     pub fn leave(&mut self)
         ensures { self.new ≡ closed self.old }
@@ -265,22 +235,28 @@ impl Stack {
         }
     }
 
-    /// The calls whose accepts are under way, the innermost one first. For no other call a frame is opened as yet.
+    /// The calls whose accepts are under way, the innermost one first.
     pub fn accepts(&self, alloc: Global) -> Result<Vec<usize>, AllocError>
-        ensures accepted { IfOk result (λ calls. calls.items ≡ accepted_in self.now.opened) }
-        ensures served { IfOk result (λ calls. calls.items ≡ served_in self.now.opened) }
+        ensures { IfOk result (λ calls. calls.items ≡ accepted_in self.now.opened) }
     {
         let calls = accepted_of(alloc, &self.opened)?;
         Ok(calls)
     }
 
-    /// Whether an entry body is under way for another task's call; as yet no frame is opened for one.
+    /// The calls whose accepts or entry bodies are under way, the innermost one first.
+    pub fn served(&self, alloc: Global) -> Result<Vec<usize>, AllocError>
+        ensures { IfOk result (λ calls. calls.items ≡ served_in self.now.opened) }
+    {
+        let calls = served_of(alloc, &self.opened)?;
+        Ok(calls)
+    }
+
+    /// Whether an entry body is under way for another task's call.
     pub fn is_serving(&self) -> bool
         ensures { (plan : Plan) → (barrier : ℕ → Sight → Result Bool RaiseOf) →
             result ≡ any (is_served plan barrier) self.now.opened }
     {
-        let _ = &self.opened;
-        false
+        is_any_served(&self.opened)
     }
 
     /// The innermost one but for loops within it: that of the construct which is left next.
@@ -348,6 +324,13 @@ impl Stack {
         open.handling
     }
 
+    /// A function's value waits for the end of its call (RM 6.5).
+    pub(crate) fn set_value(&mut self, value: Int32)
+        ensures { self.new ≡ with_function_value value self.old }
+    {
+        give_value(&mut self.opened, value);
+    }
+
     /// So many names are elaborated in the innermost one.
     pub(crate) fn set_elaborated(&mut self, elaborated: usize)
         ensures { self.new ≡ with_elaborated elaborated self.old }
@@ -357,8 +340,8 @@ impl Stack {
         }
     }
 
-    /// Whether one frame more is allowed; those of accepts are not counted.
-    pub(crate) fn has_room(&self) -> bool
+    /// Whether one frame more is allowed; those of accepts and entry bodies are not counted.
+    pub fn has_room(&self) -> bool
         ensures { result ≡ nat_le (suc (live_frames self.now.opened)) FRAMES }
     {
         // Where so few are open, it does not matter which of them are counted.
@@ -431,6 +414,19 @@ impl Stack {
     }
 }
 
+// A function's value waits in the last of these that was not opened within another execution.
+fn give_value(opened: &mut Vec<Open>, value: Int32)
+    ensures { reverse opened.new.items ≡ valued value (reverse opened.old.items) }
+{
+    for inner in 0..opened.len() {
+        let at = opened.len() - 1 - inner;
+        if !opened[at].purpose.is_inner() {
+            opened[at].purpose = opened[at].purpose.with_value(value);
+            return;
+        }
+    }
+}
+
 // The numbers of frames, the last one first.
 fn numbers_of(alloc: Global, opened: &[Open]) -> Result<Vec<usize>, AllocError>
     ensures { IfOk result (λ frames. frames.items ≡ map (λ o. o.frame) (reverse opened.now)) }
@@ -459,6 +455,25 @@ fn accepted_of(alloc: Global, opened: &[Open]) -> Result<Vec<usize>, AllocError>
         .rev()
         .filter_map(|open| open.purpose.accepted())
         .collect(alloc)
+}
+
+// Those of accepts and entry bodies.
+fn served_of(alloc: Global, opened: &[Open]) -> Result<Vec<usize>, AllocError>
+    ensures { IfOk result (λ calls. calls.items ≡
+        filter_map (λ o. served_for o.purpose) (reverse opened.now)) }
+{
+    opened
+        .iter()
+        .rev()
+        .filter_map(|open| open.purpose.served())
+        .collect(alloc)
+}
+
+// Whether one of these is an entry body's, for another task's call.
+fn is_any_served(opened: &[Open]) -> bool
+    ensures { result ≡ list_any (λ o. is_served_for o.purpose) (reverse opened.now) }
+{
+    opened.iter().rev().any(|open| open.purpose.is_served())
 }
 
 // Those of masters.

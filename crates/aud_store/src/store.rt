@@ -1,16 +1,17 @@
 // All frames ever made, and those that are open.
 
-ghost use Rattle.std.specs.Prelude.{◌≡◌, ◌<◌, ◌∷◌, [], None, suc, pos, length, replicate, nat_le, IsNone, OnOk, OnErr, IfOk, slice_get, slice_index_or};
+ghost use Rattle.std.specs.Prelude.{◌≡◌, ◌<◌, ◌∷◌, ◌++◌, [], None, suc, pos, length, replicate, nat_le, IsNone, OnOk, OnErr, IfOk, slice_get, slice_index_or};
 ghost use Rattle.aud_text.specs.declared.limits.TheConstants.{FRAMES};
 ghost use Rattle.aud_meaning.specs.Evaluation.{frame_at};
 ghost use Rattle.aud_meaning.specs.Effects.{innermost, elaborated_in, handled, live_frames};
 ghost use Rattle.aud_meaning.specs.Ties.Stack.{closed, closed_times};
 ghost use Rattle.aud_store.specs.Ties.Frames.{only_named, with_frame};
 ghost use Rattle.aud_store.specs.Ties.Stored.{copies_of, declared, entered_after, innermost_cell};
-ghost use Rattle.aud_store.specs.Ties.Stored.{kept_by, plain_purpose, stored, IsInnermost};
+ghost use Rattle.aud_store.specs.Ties.Stored.{kept_by, plain_purpose, stored, with_function_value, IsInnermost};
 
 use crate::frames::Frames;
-use crate::stack::{Open, Purpose, Stack};
+use crate::purpose::Purpose;
+use crate::stack::{Open, Stack};
 use crate::target::Back;
 use aud_text::int32::Int32;
 use aud_text::place::Pos;
@@ -83,6 +84,49 @@ impl Store {
         Ok(frame)
     }
 
+    /// A frame with these cells is opened that sees the frames of a display, and no other besides its own. It gives the frame's
+    /// number.
+    pub fn enter_apart(
+        &mut self,
+        alloc: Global,
+        purpose: Purpose,
+        backs: &[Back],
+        display: &[usize],
+        region: usize,
+        at: Pos,
+        cells: &[Int32],
+    ) -> Result<usize, AllocError>
+        requires copies { copies_of purpose ≡ length backs.now }
+        ensures number { IfOk result (λ frame. frame ≡ length self.old.frames) }
+        ensures entered { OnOk result (self.new ≡
+            entered_after (plain_purpose purpose backs.now) region at cells.now
+            (length cells.now) display.now self.old) }
+        ensures kept { OnErr result (self.new ≡ self.old) }
+    {
+        let frame = self.frames.len();
+        let elaborated = cells.len();
+        self.stack
+            .enter_apart(purpose, backs, display, frame, region, at, elaborated)?;
+        if let Err(failure) = self.frames.enter(alloc, cells) {
+            self.stack.leave();
+            return Err(failure);
+        }
+        Ok(frame)
+    }
+
+    /// A frame with these cells is made that no task opens, as that of an object's components. It gives the frame's number.
+    pub fn make(&mut self, alloc: Global, cells: &[Int32]) -> Result<usize, AllocError>
+        ensures number { IfOk result (λ frame. frame ≡ length self.old.frames) }
+        ensures made { OnOk result (self.new ≡ record self.old {
+          frames = self.old.frames ++ cells.now ∷ [];
+        }) }
+        ensures kept { OnErr result (self.new ≡ self.old) }
+    {
+        let frame = self.frames.len();
+        self.frames.enter(alloc, cells)?;
+        Ok(frame)
+    }
+
     /// Whether one frame more is allowed.
     pub fn has_room(&self) -> bool
         ensures { result ≡ nat_le (suc (live_frames self.now.stack.opened)) FRAMES }
@@ -102,6 +146,14 @@ impl Store {
         ensures { self.new ≡ record self.old { stack = closed_times n self.old.stack } }
     {
         self.stack.leave_times(n);
+    }
+
+    /// A function's value waits for the end of its call (RM 6.5).
+    pub fn set_value(&mut self, value: Int32)
+        ensures { self.new ≡
+            record self.old { stack = with_function_value value self.old.stack } }
+    {
+        self.stack.set_value(value);
     }
 
     /// The exception that is being handled (RM 11.3(5)).

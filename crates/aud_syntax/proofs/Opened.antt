@@ -23,14 +23,14 @@ use Rattle.aud_syntax.specs.declared.tree.Name.{out-Name, roll-Name, roll-out-Na
 use Rattle.aud_syntax.specs.declared.tree.Primary as primary
 use Rattle.aud_syntax.specs.declared.tree.Statement.{Statement, Row_of-Statement, end_of-Statement, more_of-Statement, items-the_row-Statement, items_hidden-the_row-Statement-0, items_shown-the_row-Statement-0}
 use Rattle.aud_syntax.specs.declared.tree.Statement.TheVariants.{Loop, SelectCall}
-use Rattle.aud_syntax.specs.declared.tree.Alternative.TheBlock.{hidden-the_row-Statement-0, shown-the_row-Statement-0, shown-the_row-Declaration-1, shown-the_row-Handler-2, shown-the_row-Arm-3, shown-the_row-Guarded-4}
+use Rattle.aud_syntax.specs.declared.tree.Alternative.TheBlock.{hidden-the_row-Statement-0, shown-the_row-Statement-0, shown-the_row-Declaration-1, shown-the_row-Handler-2, shown-the_row-Arm-3, shown-the_row-OperationBody-4, shown-the_row-Guarded-5}
 use Rattle.aud_syntax.specs.declared.tree.IfStatement.{IfStatement, IfStatement', out-IfStatement, roll-IfStatement, out-roll-IfStatement, Row_of-Arm, end_of-Arm, more_of-Arm, items-the_row-Arm, items_shown-the_row-Arm-3}
 use Rattle.aud_syntax.specs.declared.tree.Arm.{Arm}
 use Rattle.aud_syntax.specs.declared.tree.Handler.{Handler}
 use Rattle.aud_syntax.specs.declared.tree.Statements.{Statements}
 use Rattle.aud_syntax.specs.declared.tree.AcceptStatement.{AcceptStatement, AcceptStatement', out-AcceptStatement, roll-AcceptStatement, out-roll-AcceptStatement, None', Some'}
 use Rattle.aud_syntax.specs.declared.tree.Delay.{Delay}
-use Rattle.aud_syntax.specs.declared.tree.SelectStatement.{SelectStatement, SelectStatement', out-SelectStatement, Row_of-Guarded, end_of-Guarded, more_of-Guarded, items-the_row-Guarded, items_shown-the_row-Guarded-4}
+use Rattle.aud_syntax.specs.declared.tree.SelectStatement.{SelectStatement, SelectStatement', out-SelectStatement, Row_of-Guarded, end_of-Guarded, more_of-Guarded, items-the_row-Guarded, items_shown-the_row-Guarded-5}
 use Rattle.aud_syntax.specs.declared.tree.SelectedCall.{SelectedCall}
 use Rattle.aud_syntax.specs.declared.tree.Alternative.TheVariants as alternative
 use Rattle.aud_syntax.specs.declared.tree.Otherwise.TheVariants as otherwise
@@ -38,11 +38,14 @@ use Rattle.aud_syntax.specs.declared.tree.Formal.{Formal}
 use Rattle.aud_syntax.specs.declared.tree.Declaration.{Declaration}
 use Rattle.aud_syntax.specs.declared.tree.ProcedureDeclaration.{ProcedureDeclaration, ProcedureDeclaration', out-ProcedureDeclaration, roll-ProcedureDeclaration, out-roll-ProcedureDeclaration}
 use Rattle.aud_syntax.specs.declared.tree.TaskBody.{TaskBody, TaskBody', out-TaskBody, roll-TaskBody, out-roll-TaskBody}
+use Rattle.aud_syntax.specs.declared.tree.ProtectedBody.{ProtectedBody, ProtectedBody', out-ProtectedBody, roll-ProtectedBody, out-roll-ProtectedBody, Row_of-OperationBody, end_of-OperationBody, more_of-OperationBody, items-the_row-OperationBody, items_shown-the_row-OperationBody-4}
+use Rattle.aud_syntax.specs.declared.tree.OperationBody.{OperationBody, OperationBody', out-OperationBody, roll-OperationBody, out-roll-OperationBody}
+use Rattle.aud_syntax.specs.declared.tree.OperationKind.{OperationKind}
 use Rattle.aud_text.specs.declared.place.Pos.{Pos}
 use Rattle.aud_syntax.specs.declared.tree.LoopStatement.{LoopStatement}
 use Rattle.aud_syntax.specs.declared.tree.BlockStatement.{BlockStatement, BlockStatement', out-BlockStatement, roll-BlockStatement, out-roll-BlockStatement, Row_of-Declaration, end_of-Declaration, more_of-Declaration, items-the_row-Declaration, items_shown-the_row-Declaration-1}
 use Rattle.aud_syntax.specs.declared.tree.Body.{Body, Body', out-Body, roll-Body, out-roll-Body, Row_of-Handler, end_of-Handler, more_of-Handler, items-the_row-Handler, items_shown-the_row-Handler-2}
-use Rattle.aud_syntax.specs.Ties.View.{plain_expression, plain_boxed, plain_expressions, plain_args, plain_name, plain_part, plain_parts, part_list, plain_primary, plain_relation, plain_relations, relation_list, plain_chain, plain_comparison, plain_simple, plain_addeds, plain_added, plain_term, plain_multiplieds, plain_multiplied, plain_factor, plain_statement, plain_row, plain_others, plain_statements, plain_if, plain_arms, arm_list, plain_iteration, plain_if_statement, plain_loop_statement, plain_choices, plain_body, plain_handlers, handler_list, plain_body_parts, plain_block, plain_block_statement, plain_formal, plain_declaration, plain_declaration_row, plain_declarations, plain_procedure, plain_procedure_parts, plain_task_body, plain_task_body_parts, plain_maybe, plain_delay, plain_accept, plain_accept_parts, plain_done, plain_select, plain_select_statement, plain_alternative, plain_alternatives, guarded_list, plain_selected_call, plain_other}
+use Rattle.aud_syntax.specs.Ties.View.{plain_expression, plain_boxed, plain_expressions, plain_args, plain_name, plain_part, plain_parts, part_list, plain_primary, plain_relation, plain_relations, relation_list, plain_chain, plain_comparison, plain_simple, plain_addeds, plain_added, plain_term, plain_multiplieds, plain_multiplied, plain_factor, plain_statement, plain_row, plain_others, plain_statements, plain_if, plain_arms, arm_list, plain_iteration, plain_if_statement, plain_loop_statement, plain_choices, plain_body, plain_handlers, handler_list, plain_body_parts, plain_block, plain_block_statement, plain_formal, plain_declaration, plain_declaration_row, plain_declarations, plain_procedure, plain_procedure_parts, plain_task_body, plain_task_body_parts, made_operation_body, plain_operation_body, plain_operation_body_parts, plain_operation_bodies, operation_body_list, plain_protected_body, plain_protected_body_parts, plain_maybe, plain_delay, plain_accept, plain_accept_parts, plain_done, plain_select, plain_select_statement, plain_alternative, plain_alternatives, guarded_list, plain_selected_call, plain_other}
 use Rattle.aud_syntax.specs.Plain as m
 
 abbrev pub multiplied_list : List Multiplied → m.Multiplieds
@@ -173,14 +176,14 @@ guarded_rows : (n : _) (row : Row_of-Guarded n) → plain_alternatives row ≡ g
 guarded_rows n end_of-Guarded = refl
 guarded_rows n (more_of-Guarded guard x row) = ap (λ z. m.more_alternatives (plain_maybe guard) (plain_alternative x) z) (guarded_rows _ row)
 
-guarded_shown : (shape : Vec (Unit {0}) Global) (row : Row_of-Guarded (list_count (this {0}) shape.items 0)) → plain_alternatives row ≡ guarded_list (shown-the_row-Guarded-4 shape row).items
-guarded_shown shape row = guarded_rows _ row ∙ ap guarded_list (sym (items_shown-the_row-Guarded-4 shape row))
+guarded_shown : (shape : Vec (Unit {0}) Global) (row : Row_of-Guarded (list_count (this {0}) shape.items 0)) → plain_alternatives row ≡ guarded_list (shown-the_row-Guarded-5 shape row).items
+guarded_shown shape row = guarded_rows _ row ∙ ap guarded_list (sym (items_shown-the_row-Guarded-5 shape row))
 
 pub select_open : (x : SelectStatement) → plain_select x ≡ plain_select_statement x
-unfolding out-SelectStatement shown-the_row-Statement-0 shown-the_row-Guarded-4 denote.Hole.Carrier.out
+unfolding out-SelectStatement shown-the_row-Statement-0 shown-the_row-Guarded-5 denote.Hole.Carrier.out
 select_open (SelectStatement' at guard x shape others else_shape otherwise) =
     ap (λ z. m.select_accept at (plain_maybe guard) (plain_alternative x) z (plain_row otherwise)) (guarded_shown shape others)
-    ∙ ap (λ z. m.select_accept at (plain_maybe guard) (plain_alternative x) (guarded_list (shown-the_row-Guarded-4 shape others).items) z) (statements_shown else_shape otherwise)
+    ∙ ap (λ z. m.select_accept at (plain_maybe guard) (plain_alternative x) (guarded_list (shown-the_row-Guarded-5 shape others).items) z) (statements_shown else_shape otherwise)
 
 pub selected_call_open : (x : Box SelectedCall Global) → plain_statement (SelectCall x) ≡ plain_selected_call x.value
 selected_call_open x = ap (λ z. m.select_call x.value.at (plain_name x.value.call) z (plain_other x.value.otherwise)) (others_are x.value.behind)
@@ -231,7 +234,22 @@ pub task_body_open : (x : TaskBody) → plain_task_body x ≡ plain_task_body_pa
 unfolding out-TaskBody shown-the_row-Declaration-1 denote.Hole.Carrier.out
 task_body_open (TaskBody' at i shape declarations x) = ap (λ z. m.task_body at i z (plain_body x)) (declarations_shown shape declarations)
 
--- statements with handlers, a block, a procedure and the body of a task as they are made of their parts
+pub operation_body_open : (x : OperationBody) → plain_operation_body x ≡ plain_operation_body_parts x
+unfolding out-OperationBody shown-the_row-Declaration-1 denote.Hole.Carrier.out
+operation_body_open (OperationBody' kind at i formals shape declarations x) = ap (λ z. made_operation_body kind at i (map plain_formal formals.items) z (plain_body x)) (declarations_shown shape declarations)
+
+operation_rows : (n : _) (row : Row_of-OperationBody n) → plain_operation_bodies row ≡ operation_body_list (items-the_row-OperationBody n row)
+operation_rows n end_of-OperationBody = refl
+operation_rows n (more_of-OperationBody x row) = ap (λ z. m.more_bodies (plain_operation_body x) z) (operation_rows _ row)
+
+operations_shown : (shape : Vec (Unit {0}) Global) (row : Row_of-OperationBody (list_count (this {0}) shape.items 0)) → plain_operation_bodies row ≡ operation_body_list (shown-the_row-OperationBody-4 shape row).items
+operations_shown shape row = operation_rows _ row ∙ ap operation_body_list (sym (items_shown-the_row-OperationBody-4 shape row))
+
+pub protected_body_open : (x : ProtectedBody) → plain_protected_body x ≡ plain_protected_body_parts x
+unfolding out-ProtectedBody shown-the_row-OperationBody-4 denote.Hole.Carrier.out
+protected_body_open (ProtectedBody' at i shape bodies last) = ap (λ z. m.protected_body at i z last) (operations_shown shape bodies)
+
+-- statements with handlers, a block, a procedure, and the bodies of tasks, operations and protected objects as they are made of their parts
 
 pub body_roll : (begin : Pos) (x : Statements) (handlers : Vec Handler Global) (end : Pos) (i : Option Ident) (semicolon : Pos) →
     plain_body (roll-Body (record { begin = begin; statements = x; handlers = handlers; end = end; name = i; semicolon = semicolon })) ≡ m.body begin (plain_statements x) (handler_list handlers.items) end i semicolon
@@ -252,3 +270,14 @@ procedure_roll at i formals ds x =
 pub task_body_roll : (at : Pos) (i : Ident) (ds : Vec Declaration Global) (x : Body) → plain_task_body (roll-TaskBody (record { at = at; name = i; declarations = ds; body = x })) ≡ m.task_body at i (plain_declarations ds.items) (plain_body x)
 task_body_roll at i ds x =
     task_body_open (roll-TaskBody (record { at = at; name = i; declarations = ds; body = x })) ∙ ap (λ y. m.task_body y.at y.name (plain_declarations y.declarations.items) (plain_body y.body)) (out-roll-TaskBody (record { at = at; name = i; declarations = ds; body = x }))
+
+pub operation_body_roll : (kind : OperationKind) (at : Pos) (i : Ident) (formals : Vec Formal Global) (ds : Vec Declaration Global) (x : Body) →
+    plain_operation_body (roll-OperationBody (record { kind = kind; at = at; name = i; formals = formals; declarations = ds; body = x })) ≡ made_operation_body kind at i (map plain_formal formals.items) (plain_declarations ds.items) (plain_body x)
+operation_body_roll kind at i formals ds x =
+    operation_body_open (roll-OperationBody (record { kind = kind; at = at; name = i; formals = formals; declarations = ds; body = x }))
+    ∙ ap (λ y. made_operation_body y.kind y.at y.name (map plain_formal y.formals.items) (plain_declarations y.declarations.items) (plain_body y.body)) (out-roll-OperationBody (record { kind = kind; at = at; name = i; formals = formals; declarations = ds; body = x }))
+
+pub protected_body_roll : (at : Pos) (i : Ident) (bodies : Vec OperationBody Global) (last : Option Ident) →
+    plain_protected_body (roll-ProtectedBody (record { at = at; name = i; bodies = bodies; end_name = last })) ≡ m.protected_body at i (operation_body_list bodies.items) last
+protected_body_roll at i bodies last =
+    protected_body_open (roll-ProtectedBody (record { at = at; name = i; bodies = bodies; end_name = last })) ∙ ap (λ y. m.protected_body y.at y.name (operation_body_list y.bodies.items) y.end_name) (out-roll-ProtectedBody (record { at = at; name = i; bodies = bodies; end_name = last }))

@@ -24,6 +24,11 @@ use Rattle.aud_syntax.specs.declared.tree.Body.{Body}
 use Rattle.aud_syntax.specs.declared.tree.Formal.{Formal}
 use Rattle.aud_syntax.specs.declared.tree.ProcedureDeclaration.{ProcedureDeclaration}
 use Rattle.aud_syntax.specs.declared.tree.TaskBody.{TaskBody}
+use Rattle.aud_syntax.specs.declared.tree.ProtectedBody.{ProtectedBody}
+use Rattle.aud_syntax.specs.declared.tree.OperationBody.{OperationBody, out-OperationBody}
+use Rattle.aud_syntax.specs.declared.tree.OperationKind.{OperationKind}
+use Rattle.aud_syntax.specs.declared.tree.OperationKind.TheVariants as operation_kind
+use Rattle.aud_text.specs.declared.place.Pos.{Pos}
 use Rattle.aud_syntax.specs.declared.tree.Statements.{Statements}
 use Rattle.aud_syntax.specs.declared.tree.AcceptStatement.{AcceptStatement}
 use Rattle.aud_syntax.specs.declared.tree.Delay.{Delay}
@@ -32,9 +37,10 @@ use Rattle.aud_syntax.specs.declared.tree.SelectedCall.{SelectedCall}
 use Rattle.aud_syntax.specs.declared.tree.Alternative.TheVariants as alternative
 use Rattle.aud_syntax.specs.declared.tree.Otherwise.TheVariants as otherwise
 use Rattle.aud_syntax.specs.declared.tree.Handler.{Handler}
-use Rattle.aud_syntax.specs.Ties.View.{plain_expression, plain_chain, plain_boxed, plain_expressions, plain_name, plain_primary, plain_statement, plain_others, plain_if, plain_if_statement, plain_loop_statement, plain_block, plain_block_statement, plain_body, plain_body_parts, handler_list, plain_formal, plain_procedure, plain_procedure_parts, plain_task_body, plain_task_body_parts, plain_statements, plain_delay, plain_accept, plain_accept_parts, plain_select, plain_select_statement, plain_selected_call, plain_alternative, plain_other}
-use Rattle.aud_syntax.specs.Why.Printed.{ident_word, expression_words, name_words, primary_words, argument_words, args_words, more_args_words, otherwise_words, statement_words, more_statements_words, body_words, handled_words, handlers_words, formal_words, more_formals_words, formals_words, declaration_words, statements_words, words_behind, delay_words, accept_words, doing_words, alternative_words, other_words}
-use Rattle.aud_syntax.proofs.Opened.{chain_open, attribute_open, if_open, loop_open, block_open, body_open, procedure_open, task_body_open, accept_open, select_open, selected_call_open, accept_alternative_open, delay_alternative_open, or_delay_open, or_else_open}
+use Rattle.aud_syntax.specs.Ties.View.{plain_expression, plain_chain, plain_boxed, plain_expressions, plain_name, plain_primary, plain_statement, plain_others, plain_if, plain_if_statement, plain_loop_statement, plain_block, plain_block_statement, plain_body, plain_body_parts, handler_list, plain_formal, plain_procedure, plain_procedure_parts, plain_task_body, plain_task_body_parts, made_operation_body, plain_operation_body, plain_operation_body_parts, plain_protected_body, plain_protected_body_parts, plain_declarations, plain_statements, plain_delay, plain_accept, plain_accept_parts, plain_select, plain_select_statement, plain_selected_call, plain_alternative, plain_other}
+use Rattle.aud_syntax.specs.Why.Printed.{ident_word, expression_words, name_words, primary_words, argument_words, args_words, more_args_words, otherwise_words, statement_words, more_statements_words, body_words, handled_words, handlers_words, formal_words, more_formals_words, formals_words, declaration_words, declarations_words, head_words, operation_body_words, statements_words, words_behind, delay_words, accept_words, doing_words, alternative_words, other_words}
+use Rattle.aud_syntax.specs.Ties.Heads.{operation_head_words}
+use Rattle.aud_syntax.proofs.Opened.{chain_open, attribute_open, if_open, loop_open, block_open, body_open, procedure_open, task_body_open, operation_body_open, protected_body_open, accept_open, select_open, selected_call_open, accept_alternative_open, delay_alternative_open, or_delay_open, or_else_open}
 
 pub spaced_append : (a b : List Word) → spaced (a ++ b) ≡ spaced a ++ spaced b
 spaced_append [] b = refl
@@ -133,6 +139,28 @@ procedure_written r old new x h = written_as declaration_words r old new (plain_
 -- the body of a task, as a declaration
 pub task_body_written : {X E : Type 0} (r : Result X E) (old new : List ℕ) (x : TaskBody) → OnOk r (new ≡ old ++ spaced (declaration_words (plain_task_body_parts x))) → OnOk r (new ≡ old ++ spaced (declaration_words (plain_task_body x)))
 task_body_written r old new x h = written_as declaration_words r old new (plain_task_body x) (plain_task_body_parts x) (task_body_open x) h
+
+-- the body of a protected object, as a declaration
+pub protected_body_written : {X E : Type 0} (r : Result X E) (old new : List ℕ) (x : ProtectedBody) → OnOk r (new ≡ old ++ spaced (declaration_words (plain_protected_body_parts x))) → OnOk r (new ≡ old ++ spaced (declaration_words (plain_protected_body x)))
+protected_body_written r old new x h = written_as declaration_words r old new (plain_protected_body x) (plain_protected_body_parts x) (protected_body_open x) h
+
+-- the body of an operation, by its head and what stands behind its `is`
+
+headed : (kind : OperationKind) (at : Pos) (i : Ident) (formals : List m.Formal) (ds : m.Declarations) (x : m.Body) →
+    operation_body_words (made_operation_body kind at i formals ds x) ≡ operation_head_words kind i formals ++ (last_word (codes "is") ∷ (declarations_words ds ++ body_words x))
+headed (operation_kind.Entry barrier) at i formals ds x =
+    sym (append_assoc (head_words (codes "entry") i formals) (word (codes "when") ∷ expression_words (plain_expression barrier)) (last_word (codes "is") ∷ (declarations_words ds ++ body_words x)))
+headed operation_kind.Procedure at i formals ds x = refl
+headed (operation_kind.Function subtype) at i formals ds x =
+    sym (append_assoc (head_words (codes "function") i formals) (word (codes "return") ∷ ident_word subtype ∷ []) (last_word (codes "is") ∷ (declarations_words ds ++ body_words x)))
+
+pub operation_body_written : {X E : Type 0} (r : Result X E) (old new : List ℕ) (s : OperationBody) →
+    (let x = out-OperationBody s in OnOk r (new ≡ old ++ spaced (operation_head_words x.kind x.name (map plain_formal x.formals.items) ++ (last_word (codes "is") ∷ (declarations_words (plain_declarations x.declarations.items) ++ body_words (plain_body x.body)))))) →
+    OnOk r (new ≡ old ++ spaced (operation_body_words (plain_operation_body s)))
+operation_body_written r old new s h =
+    let x = out-OperationBody s in
+    written_as operation_body_words r old new (plain_operation_body s) (plain_operation_body_parts s) (operation_body_open s)
+    (subst (λ z. OnOk r (new ≡ old ++ spaced z)) (sym (headed x.kind x.at x.name (map plain_formal x.formals.items) (plain_declarations x.declarations.items) (plain_body x.body))) h)
 
 -- statements with handlers, by their parts
 pub body_written : {X E : Type 0} (r : Result X E) (old new : List ℕ) (x : Body) → OnOk r (new ≡ old ++ spaced (body_words (plain_body_parts x))) → OnOk r (new ≡ old ++ spaced (body_words (plain_body x)))

@@ -1,2 +1,3 @@
+pub mod Heads
 pub mod View
 pub mod Writes

@@ -212,7 +212,7 @@ fn push_entries(out: &mut Vec<u8>, entries: &[EntryDeclaration]) -> Result<(), A
 }
 
 // RM 9.5.2(2)
-fn push_entry(out: &mut Vec<u8>, entry: &EntryDeclaration) -> Result<(), AllocError>
+pub fn push_entry(out: &mut Vec<u8>, entry: &EntryDeclaration) -> Result<(), AllocError>
     ensures { Writes result out.old out.new (entry_words (plain_entry entry.now)) }
 {
     push_head(out, b"entry", &entry.name, &entry.formals)?;

@@ -1,8 +1,8 @@
 // The canonical text of declarations, statements and bodies, which lie in one another.
 
 ghost use Rattle.aud_syntax.specs.Ties.Writes.{Writes};
-ghost use Rattle.aud_syntax.specs.Ties.View.{plain_declaration, plain_declarations, plain_procedure, plain_task_body, plain_expression, plain_maybe, plain_name, plain_statement, plain_others, plain_statements, plain_if, arm_list, plain_iteration, plain_parameter, plain_choices, plain_loop_statement, plain_block, plain_body, handler_list, plain_delay, plain_accept, plain_done, plain_select, guarded_list, plain_alternative, plain_selected_call, plain_other};
-ghost use Rattle.aud_syntax.specs.Why.Printed.{declaration_words, declarations_words, null_words, assignment_words, call_words, label_words, reverse_words, iteration_words, exit_words, value_words, return_words, raise_words, declare_words, choices_words, expression_words, arm_words, arms_words, otherwise_words, statement_words, more_statements_words, statements_words, body_words, handler_words, handlers_words, handled_words, words_behind, seconds_words, duration_words, delay_words, accept_words, doing_words, guard_words, terminate_words, guarded_words, alternative_words, alternatives_words, other_words, end_select_words};
+ghost use Rattle.aud_syntax.specs.Ties.View.{plain_declaration, plain_declarations, plain_procedure, plain_task_body, plain_protected_body, plain_operation_body, operation_body_list, plain_expression, plain_maybe, plain_name, plain_statement, plain_others, plain_statements, plain_if, arm_list, plain_iteration, plain_parameter, plain_choices, plain_loop_statement, plain_block, plain_body, handler_list, plain_delay, plain_accept, plain_done, plain_select, guarded_list, plain_alternative, plain_selected_call, plain_other};
+ghost use Rattle.aud_syntax.specs.Why.Printed.{declaration_words, declarations_words, operation_body_words, operation_bodies_words, null_words, assignment_words, call_words, label_words, reverse_words, iteration_words, exit_words, value_words, return_words, raise_words, declare_words, choices_words, expression_words, arm_words, arms_words, otherwise_words, statement_words, more_statements_words, statements_words, body_words, handler_words, handlers_words, handled_words, words_behind, seconds_words, duration_words, delay_words, accept_words, doing_words, guard_words, terminate_words, guarded_words, alternative_words, alternatives_words, other_words, end_select_words};
 
 use crate::declarations::{
     push_array, push_constant, push_exceptions, push_formals, push_head, push_object, push_task,
@@ -10,11 +10,12 @@ use crate::declarations::{
 use crate::expressions::{
     push_expression, push_in_parentheses, push_maybe, push_name, push_simple,
 };
+use crate::protected::{push_ending, push_operation_head, push_protected};
 use crate::tree::{
     AcceptStatement, Alternative, Arm, BlockStatement, Body, Choices, Declaration, Delay,
     Expression, Guarded, Handler, Ident, IfStatement, Iteration, LoopParameter, LoopStatement,
-    Name, Otherwise, ProcedureDeclaration, Real, SelectStatement, SelectedCall, Statement,
-    Statements, TaskBody,
+    Name, OperationBody, Otherwise, ProcedureDeclaration, ProtectedBody, Real, SelectStatement,
+    SelectedCall, Statement, Statements, TaskBody,
 };
 use crate::words::{
     push_end_name, push_ident, push_idents, push_last_word, push_real, push_two_words, push_word,
@@ -48,6 +49,8 @@ fn push_declaration(out: &mut Vec<u8>, declaration: &Declaration) -> Result<(), 
         Declaration::Procedure(procedure) => push_procedure(out, procedure),
         Declaration::Task(task) => push_task(out, task),
         Declaration::TaskBody(task) => push_task_body(out, task),
+        Declaration::Protected(object) => push_protected(out, object),
+        Declaration::ProtectedBody(object) => push_protected_body(out, object),
     }
 }
 
@@ -75,6 +78,42 @@ fn push_task_body(out: &mut Vec<u8>, task: &TaskBody) -> Result<(), AllocError>
     push_last_word(out, b"is")?;
     push_declarations(out, &task.declarations)?;
     push_body(out, &task.body)
+}
+
+// RM 9.4(7)
+#[cycle(statement)]
+fn push_protected_body(out: &mut Vec<u8>, object: &ProtectedBody) -> Result<(), AllocError>
+    ensures { Writes result out.old out.new
+        (declaration_words (plain_protected_body object.now)) }
+{
+    push_two_words(out, b"protected", b"body")?;
+    push_ident(out, &object.name)?;
+    push_last_word(out, b"is")?;
+    push_operation_bodies(out, &object.bodies)?;
+    push_ending(out, &object.end_name)
+}
+
+#[cycle(statement)]
+fn push_operation_bodies(out: &mut Vec<u8>, bodies: &[OperationBody]) -> Result<(), AllocError>
+    ensures { Writes result out.old out.new
+        (operation_bodies_words (operation_body_list bodies.now)) }
+{
+    for next in bodies {
+        push_operation_body(out, next)?;
+    }
+    Ok(())
+}
+
+// RM 9.4(8)
+#[cycle(statement)]
+fn push_operation_body(out: &mut Vec<u8>, operation: &OperationBody) -> Result<(), AllocError>
+    ensures { Writes result out.old out.new
+        (operation_body_words (plain_operation_body operation.now)) }
+{
+    push_operation_head(out, &operation.kind, &operation.name, &operation.formals)?;
+    push_last_word(out, b"is")?;
+    push_declarations(out, &operation.declarations)?;
+    push_body(out, &operation.body)
 }
 
 #[cycle(statement)]

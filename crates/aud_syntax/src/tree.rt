@@ -258,6 +258,8 @@ pub enum Declaration {
     Procedure(Box<ProcedureDeclaration>),
     Task(TaskDeclaration),
     TaskBody(Box<TaskBody>),
+    Protected(ProtectedDeclaration),
+    ProtectedBody(Box<ProtectedBody>),
 }
 
 /// A procedure and its body (RM 6.3): where its `procedure` stands, its name, its formal parameters, and its declarations.
@@ -302,6 +304,67 @@ pub struct TaskBody {
     pub name: Ident,
     pub declarations: Vec<Declaration>,
     pub body: Body,
+}
+
+/// A protected object (RM 9.4): where its `protected` stands, its name, its operations, what stands behind `private`, if that
+/// is written, and the name behind `end`.
+#[derive(Drop)]
+pub struct ProtectedDeclaration {
+    pub at: Pos,
+    pub name: Ident,
+    pub operations: Vec<Operation>,
+    pub private_items: Option<Vec<PrivateItem>>,
+    pub end_name: Option<Ident>,
+}
+
+/// What a protected object does for others (RM 9.4(5)): its name, and its formal parameters.
+#[derive(Drop)]
+pub enum Operation {
+    Entry(EntryDeclaration),
+    Procedure(Ident, Vec<Formal>),
+    /// With the subtype of its value.
+    Function(Ident, Vec<Formal>, Ident),
+}
+
+/// What stands in a protected object behind `private` (RM 9.4(6)).
+#[derive(Drop)]
+pub enum PrivateItem {
+    Operation(Operation),
+    /// Components, their subtype and their initial value.
+    Components(Identifiers, Ident, Option<Expression>),
+}
+
+/// The body of a protected object (RM 9.4(7)): where its `protected` stands, its name, the bodies of its operations, and the
+/// name behind `end`.
+#[derive(Drop)]
+#[cycle(statement)]
+pub struct ProtectedBody {
+    pub at: Pos,
+    pub name: Ident,
+    pub bodies: Vec<OperationBody>,
+    pub end_name: Option<Ident>,
+}
+
+/// The body of an operation (RM 9.4(8)): where its first word stands, its name, its formal parameters, and its declarations.
+#[derive(Drop)]
+#[cycle(statement)]
+pub struct OperationBody {
+    pub kind: OperationKind,
+    pub at: Pos,
+    pub name: Ident,
+    pub formals: Vec<Formal>,
+    pub declarations: Vec<Declaration>,
+    pub body: Body,
+}
+
+/// Of which operation a body is (RM 9.4(8)).
+#[derive(Drop)]
+pub enum OperationKind {
+    /// Of an entry with this barrier (RM 9.5.2(7)).
+    Entry(Expression),
+    Procedure,
+    /// Of a function whose value has this subtype.
+    Function(Ident),
 }
 
 /// A statement (RM 5.1).

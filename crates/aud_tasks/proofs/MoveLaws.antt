@@ -5,3 +5,4 @@ pub mod Delays
 pub mod Moving
 pub mod Resting
 pub mod Soonest
+pub mod Starting

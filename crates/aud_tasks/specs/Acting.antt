@@ -1,12 +1,10 @@
 -- The step of a task's own statements.
-use Rattle.std.specs.Prelude.{◌≡◌, ℕ, Option, Some, Bool, Result, slice_get}
+use Rattle.std.specs.Prelude.{◌≡◌, ℕ, Option, Some, slice_get}
 use Rattle.aud_text.specs.declared.limits.Limits.{Limits}
-use Rattle.aud_text.specs.declared.raise.Raise.{Raise}
 use Rattle.aud_typed.specs.Tree.{Plan}
 use Rattle.aud_meaning.specs.declared.state.Pending.{Pending}
 use Rattle.aud_meaning.specs.Configuration.{TaskAt, All}
 use Rattle.aud_meaning.specs.Control.{Asked}
-use Rattle.aud_meaning.specs.Evaluation.{Sight}
 use Rattle.aud_meaning.specs.declared.state.Move.{Move}
 use Rattle.aud_meaning.specs.Run.{turn_taken}
 use Rattle.aud_meaning.specs.Step.{done}
@@ -21,7 +19,7 @@ use Rattle.aud_tasks.specs.Turning.{turned}
 -- the task of a number does what is asked for, by the alternative that the move picks
 abbrev pub DoesAsked : Plan → Flat → Limits → Option ℕ → ℕ → Asked → All Spot → All Spot → Type 0
 DoesAsked plan code limits alternative n a old new =
-    (barrier : ℕ → Sight → Result Bool Raise) → new ≡ done (going code) plan barrier limits alternative a n old
+    new ≡ done (going code) plan (barrier_at code) limits alternative a n old
 
 -- what an ending asks for, where the evaluation before it ended so
 abbrev pub DoesEnd : Plan → Flat → Limits → Option ℕ → ℕ → EndLine → Ended → All Spot → All Spot → Type 0

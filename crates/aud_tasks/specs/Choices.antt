@@ -2,8 +2,9 @@
 use Rattle.std.specs.Prelude.{◌≡◌, ◌<◌, ℕ, length, Option, Some, None, Bool, true, false, slice_get}
 use Rattle.aud_typed.specs.Tree.{Plan}
 use Rattle.aud_meaning.specs.Configuration.{TaskAt, All}
-use Rattle.aud_meaning.specs.Control.{Coming, selecting, calling}
-use Rattle.aud_meaning.specs.Parts.{sight_of}
+use Rattle.aud_meaning.specs.Control.{Coming, selecting, calling, starting}
+use Rattle.aud_meaning.specs.Evaluation.{Sight, number_in}
+use Rattle.aud_meaning.specs.Parts.{sight_of, unit_of}
 use Rattle.aud_code.specs.declared.line.Among.{Among}
 use Rattle.aud_code.specs.declared.line.Among.TheVariants as among
 use Rattle.aud_code.specs.declared.line.Last.{Last}
@@ -15,6 +16,7 @@ use Rattle.aud_code.specs.Places.{Spot}
 use Rattle.aud_expr.specs.Flow.{evaluated_by}
 use Rattle.aud_tasks.specs.declared.choice.Choice.{Choice}
 use Rattle.aud_tasks.specs.declared.choice.Choice.TheVariants.{Select, Call}
+use Rattle.aud_tasks.specs.declared.choice.Start.{Start}
 use Rattle.aud_tasks.specs.Turning.{coming_in}
 
 -- what is evaluated up to the mark
@@ -38,6 +40,21 @@ choice_of (Concerns a next) = by a
     by (among.Call entry kind otherwise) = Some (Call entry)
     by other = None
 choice_of last = None
+
+-- the call of an object that the step with this ending is, by a task that sees this
+abbrev pub start_in : Plan → Last → Sight → Option Start
+start_in plan (Concerns a next) s = by a
+  where
+    by : Among → Option Start
+    by (among.CallObject v entry kind otherwise) = Some (record { object = number_in v s; reading = false })
+    by (among.Operation v unit) = Some (record { object = number_in v s; reading = (unit_of plan unit).is_function })
+    by other = None
+start_in plan last s = None
+
+-- no call of an object comes next
+abbrev pub IsNoStart : Coming → Type 0
+IsNoStart (starting object reading) = ⊥
+IsNoStart next = Unit {0}
 
 -- whether it is a statement's that concerns its task alone
 abbrev pub is_alone : Last → Bool

@@ -1,6 +1,8 @@
 -- Kinds of endings.
 use Rattle.std.specs.Prelude.{Bool, true, false, not, nat_le}
 use Rattle.aud_text.specs.declared.limits.TheConstants.{ELEMENTS}
+use Rattle.aud_code.specs.declared.line.Among.{Among}
+use Rattle.aud_code.specs.declared.line.Among.TheVariants.{DeclareObject}
 use Rattle.aud_code.specs.declared.line.Ending.{Ending}
 use Rattle.aud_code.specs.declared.line.Ending.TheVariants.{Declare, DeclareArray}
 use Rattle.aud_code.specs.declared.line.Last.{Last}
@@ -15,13 +17,18 @@ is_too_long (Does e next) = by e
     by other = false
 is_too_long last = false
 
--- a declaration with a value
+-- a declaration of a variable with a value, or of an object
 abbrev pub is_declaration : Last → Bool
 is_declaration (Does e next) = by e
   where
     by : Ending → Bool
     by (Declare up_to again) = true
     by other = false
+is_declaration (Concerns a next) = among a
+  where
+    among : Among → Bool
+    among (DeclareObject n) = true
+    among other = false
 is_declaration last = false
 
 -- what is evaluated before it may raise

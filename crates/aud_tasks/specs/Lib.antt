@@ -8,3 +8,4 @@ pub mod Running
 pub mod Acting
 pub mod Endings
 pub mod Leaving
+pub mod Counting

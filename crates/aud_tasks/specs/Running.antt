@@ -12,6 +12,7 @@ use Rattle.aud_expr.specs.Size.{size}
 use Rattle.aud_over.specs.Over.{forgotten}
 use Rattle.aud_tasks.specs.declared.run.Ran.{Ran}
 use Rattle.aud_state.specs.declared.fast.Taken.{Taken}
+use Rattle.aud_tasks.specs.Counting.{most_ticks}
 use Rattle.aud_tasks.specs.Turning.{turn_in}
 
 -- the same is left in new as after n steps from old, or after those until no move is enabled, and what was done is told
@@ -19,8 +20,7 @@ pub record RunsLeaving (plan : Plan) (code : Flat) (limits : Limits) (n : ℕ) (
   pub left : forgotten new ≡ forgotten (run_with plan (flat_controls plan code) limits n old)
   pub steps : ran.steps + old.steps ≡ new.steps
   pub state : ran.state ≡ state_at plan (flat_controls plan code) new
-  -- an instruction is executed twice in a step at most
-  pub few : ran.ticks ≤ ran.steps * (2 * size code)
+  pub few : ran.ticks ≤ ran.steps * most_ticks plan code
   -- the limits hold of it, if they held before
   pub kept : IsWithin Spot limits old → IsWithin Spot limits new
 
@@ -30,7 +30,7 @@ pub record Took (plan : Plan) (code : Flat) (limits : Limits) (m : Move) (old ne
   pub one : ran.steps ≡ 1
   pub steps : new.steps ≡ old.steps + 1
   pub state : ran.state ≡ state_at plan (flat_controls plan code) new
-  pub few : ran.ticks ≤ 2 * size code
+  pub few : ran.ticks ≤ most_ticks plan code
 
 -- without one nothing has changed
 abbrev pub Takes : Plan → Flat → Limits → Option Move → All Spot → All Spot → Option Ran → Type 0

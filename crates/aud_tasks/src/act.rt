@@ -11,7 +11,7 @@ ghost use Rattle.aud_code.specs.Sound.{counts_of, LastFine};
 ghost use Rattle.aud_code.specs.Starts.{AreSpots};
 ghost use Rattle.aud_expr.specs.Flow.{ended, FitsEnd, ReachesEnd};
 ghost use Rattle.aud_tasks.specs.Acting.{ActsPending, ActsSo, EndsThere};
-ghost use Rattle.aud_expr.specs.Size.{size};
+ghost use Rattle.aud_tasks.specs.Counting.{most_of_barriers, most_ticks};
 
 use crate::compiled::Compiled;
 use crate::endings::{fail, finish};
@@ -38,13 +38,11 @@ pub(crate) fn act(
     requires spots { AreSpots compiled.code.now.lines state.old.tasks }
     ensures does { IfOk result (λ _. ActsSo (plain_program compiled.entry.program.now).plan
         compiled.entry.code.now compiled.entry.limits alternative n state.old state.new) }
-    ensures few { IfOk result (λ ticks. ticks ≤ size compiled.entry.code.now) }
+    ensures few { IfOk result (λ ticks. ticks ≤ most_ticks
+        (plain_program compiled.entry.program.now).plan compiled.entry.code.now) }
 {
     match state.pending(n) {
-        Some(pending) => {
-            propagate(state, alloc, compiled, n, pending)?;
-            Ok(0)
-        }
+        Some(pending) => propagate(state, alloc, compiled, n, pending),
         None => execute(state, alloc, compiled, alternative, n, operands),
     }
 }
@@ -56,18 +54,20 @@ fn propagate(
     compiled: Compiled<'_>,
     n: usize,
     pending: Pending,
-) -> Result<(), AllocError>
-    ensures { OnOk result ((alternative : Option ℕ) →
+) -> Result<u64, AllocError>
+    ensures does { OnOk result ((alternative : Option ℕ) →
         ActsPending (plain_program compiled.entry.program.now).plan compiled.entry.code.now
         compiled.entry.limits alternative n (Some pending) state.old state.new) }
+    ensures few { IfOk result (λ ticks. ticks ≤ most_of_barriers
+        (plain_program compiled.entry.program.now).plan compiled.entry.code.now) }
 {
     let place = state.place(n);
     match find_handler(compiled.code, place, pending.exception) {
         Some(_) => {
             state.handle(compiled.code, n, pending);
-            Ok(())
+            Ok(0)
         }
-        None => leave_by(state, alloc, compiled.code, n, pending),
+        None => leave_by(state, alloc, compiled, n, pending),
     }
 }
 
@@ -85,15 +85,15 @@ fn execute(
     requires spots { AreSpots compiled.code.now.lines state.old.tasks }
     ensures does { IfOk result (λ _. ActsPending (plain_program compiled.entry.program.now).plan
         compiled.entry.code.now compiled.entry.limits alternative n None state.old state.new) }
-    ensures few { IfOk result (λ ticks. ticks ≤ size compiled.entry.code.now) }
+    ensures few { IfOk result (λ ticks. ticks ≤ most_ticks
+        (plain_program compiled.entry.program.now).plan compiled.entry.code.now) }
 {
     let place = state.place(n);
     if place >= compiled.code.len() {
-        leave(state, alloc, compiled.code, n, 0)?;
-        return Ok(0);
+        return leave(state, alloc, compiled, n, 0);
     }
     let evaluated = state.evaluate(compiled.code, n, operands)?;
-    follow(
+    let ticks = follow(
         state,
         alloc,
         compiled,
@@ -102,7 +102,7 @@ fn execute(
         evaluated.outcome,
         operands,
     )?;
-    Ok(evaluated.ticks)
+    Ok(evaluated.ticks.saturating_add(ticks))
 }
 
 // What follows its evaluation.
@@ -114,14 +114,16 @@ fn follow(
     n: usize,
     outcome: Outcome,
     operands: &mut Operands,
-) -> Result<(), AllocError>
+) -> Result<u64, AllocError>
     requires within { n < length state.old.tasks }
     requires reaches { (t : TaskAt Spot) → slice_get state.old.tasks n ≡ Some t →
         ReachesEnd outcome compiled.code.now t.control.place }
     requires fits { (t : TaskAt Spot) → slice_get state.old.tasks n ≡ Some t →
         FitsEnd outcome compiled.code.now t.control.place operands.old }
-    ensures { OnOk result (EndsThere (plain_program compiled.entry.program.now).plan
+    ensures does { OnOk result (EndsThere (plain_program compiled.entry.program.now).plan
         compiled.entry.code.now compiled.entry.limits alternative n (ended outcome operands.old) state.old state.new) }
+    ensures few { IfOk result (λ ticks. ticks ≤ most_of_barriers
+        (plain_program compiled.entry.program.now).plan compiled.entry.code.now) }
 {
     match outcome {
         Outcome::Reaches(reached) => reach(
@@ -154,18 +156,20 @@ fn reach(
     n: usize,
     reached: usize,
     operands: &mut Operands,
-) -> Result<(), AllocError>
+) -> Result<u64, AllocError>
     requires within { n < length state.old.tasks }
     requires reached { (t : TaskAt Spot) → slice_get state.old.tasks n ≡ Some t →
         found compiled.code.now.lines reached ≡ found compiled.code.now.lines t.control.place }
     requires fine { (t : TaskAt Spot) → slice_get state.old.tasks n ≡ Some t →
         LastFine (end_at compiled.code.now t.control.place).last (counts_of operands.old) }
-    ensures { OnOk result (EndsThere (plain_program compiled.entry.program.now).plan
+    ensures does { OnOk result (EndsThere (plain_program compiled.entry.program.now).plan
         compiled.entry.code.now compiled.entry.limits alternative n (Reached operands.old) state.old state.new) }
+    ensures few { IfOk result (λ ticks. ticks ≤ most_of_barriers
+        (plain_program compiled.entry.program.now).plan compiled.entry.code.now) }
 {
     match compiled.code.ending(reached) {
         Some(line) => finish(state, alloc, compiled, alternative, n, line, operands),
-        None => leave(state, alloc, compiled.code, n, 0),
+        None => leave(state, alloc, compiled, n, 0),
     }
 }
 
@@ -178,9 +182,11 @@ fn raise_there(
     n: usize,
     raise: Raise,
     operands: &mut Operands,
-) -> Result<(), AllocError>
-    ensures { OnOk result (EndsThere (plain_program compiled.entry.program.now).plan
+) -> Result<u64, AllocError>
+    ensures does { OnOk result (EndsThere (plain_program compiled.entry.program.now).plan
         compiled.entry.code.now compiled.entry.limits alternative n (Raised raise) state.old state.new) }
+    ensures few { IfOk result (λ ticks. ticks ≤ most_of_barriers
+        (plain_program compiled.entry.program.now).plan compiled.entry.code.now) }
 {
     match compiled.code.ending(state.place(n)) {
         Some(line) => fail(
@@ -193,6 +199,6 @@ fn raise_there(
             raise,
             operands,
         ),
-        None => leave(state, alloc, compiled.code, n, 0),
+        None => leave(state, alloc, compiled, n, 0),
     }
 }

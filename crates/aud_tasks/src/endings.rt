@@ -1,6 +1,6 @@
 // What the endings of steps do.
 
-ghost use Rattle.std.specs.Prelude.{◌≡◌, ℕ, Some, OnOk, Option, slice_get};
+ghost use Rattle.std.specs.Prelude.{◌≡◌, ◌≤◌, ℕ, Some, IfOk, OnOk, Option, slice_get};
 ghost use Rattle.aud_typed.specs.Ties.View.{plain_program, plain_tasks};
 ghost use Rattle.aud_meaning.specs.Configuration.{TaskAt};
 ghost use Rattle.aud_meaning.specs.Control.{activates, declares_tasks, ends_activation};
@@ -13,12 +13,13 @@ ghost use Rattle.aud_code.specs.Sound.{counts_of, EndingFine, LastFine};
 ghost use Rattle.aud_code.specs.View.{plain_among, plain_end, plain_last};
 ghost use Rattle.aud_sequential.specs.Steps.{IsOfOne};
 ghost use Rattle.aud_state.specs.Fast.{scene};
+ghost use Rattle.aud_tasks.specs.Counting.{most_of_barriers};
 ghost use Rattle.aud_tasks.specs.Acting.{DoesAsked, DoesEnd};
 ghost use Rattle.aud_tasks.specs.Endings.{is_declaration, is_statement, is_too_long};
 
 use crate::compiled::Compiled;
-use crate::entries;
 use crate::leave::leave;
+use crate::{entries, objects};
 use aud_code::line::{Among, EndLine, Ending, Last};
 use aud_expr::operands::Operands;
 use aud_masters::{activation, creation};
@@ -30,7 +31,7 @@ use aud_text::raise::Raise;
 use aud_typed::program::{Exception, Tasks};
 use std::alloc::{AllocError, Global};
 
-/// What the ending of a step does with its operands.
+/// What the ending of a step does with its operands. It gives the instructions of barriers that were executed.
 pub(crate) fn finish(
     state: &mut State,
     alloc: Global,
@@ -39,20 +40,26 @@ pub(crate) fn finish(
     n: usize,
     end: &EndLine,
     operands: &mut Operands,
-) -> Result<(), AllocError>
+) -> Result<u64, AllocError>
     requires there { (t : TaskAt Spot) → slice_get state.old.tasks n ≡ Some t →
         plain_end end.now ≡ end_at compiled.code.now t.control.place }
     requires fine { LastFine (plain_last end.now.last) (counts_of operands.old) }
-    ensures { OnOk result (DoesEnd (plain_program compiled.entry.program.now).plan
+    ensures does { OnOk result (DoesEnd (plain_program compiled.entry.program.now).plan
         compiled.entry.code.now compiled.entry.limits alternative n (plain_end end.now)
         (Reached operands.old) state.old state.new) }
+    ensures few { IfOk result (λ ticks. ticks ≤ most_of_barriers
+        (plain_program compiled.entry.program.now).plan compiled.entry.code.now) }
 {
-    let code = compiled.code;
     if is_too_long(&end.last) {
-        return activation::raise_in_part(state, alloc, code, n, Raise::Storage, end.at);
+        let code = compiled.code;
+        activation::raise_in_part(state, alloc, code, n, Raise::Storage, end.at)?;
+        return Ok(0);
     }
     match &end.last {
-        Last::Does(_, _) => step_alone(state, compiled, n, end, operands),
+        Last::Does(_, _) => {
+            step_alone(state, compiled, n, end, operands)?;
+            Ok(0)
+        }
         Last::Concerns(among, _) => concern(
             state,
             alloc,
@@ -63,10 +70,16 @@ pub(crate) fn finish(
             end.at,
             operands,
         ),
-        Last::Continues { .. } => step_alone(state, compiled, n, end, operands),
-        Last::Guards(_) => step_alone(state, compiled, n, end, operands),
-        Last::Ends(_, _) => leave(state, alloc, code, n, 0),
-        Last::Leaves { loops, .. } => leave(state, alloc, code, n, *loops),
+        Last::Continues { .. } => {
+            step_alone(state, compiled, n, end, operands)?;
+            Ok(0)
+        }
+        Last::Guards(_) => {
+            step_alone(state, compiled, n, end, operands)?;
+            Ok(0)
+        }
+        Last::Ends(_, _) => leave(state, alloc, compiled, n, 0),
+        Last::Leaves { loops, .. } => leave(state, alloc, compiled, n, *loops),
     }
 }
 
@@ -81,19 +94,22 @@ pub(crate) fn fail(
     end: &EndLine,
     raise: Raise,
     operands: &mut Operands,
-) -> Result<(), AllocError>
+) -> Result<u64, AllocError>
     requires { (t : TaskAt Spot) → slice_get state.old.tasks n ≡ Some t →
         plain_end end.now ≡ end_at compiled.code.now t.control.place }
-    ensures { OnOk result (DoesEnd (plain_program compiled.entry.program.now).plan
+    ensures does { OnOk result (DoesEnd (plain_program compiled.entry.program.now).plan
         compiled.entry.code.now compiled.entry.limits alternative n (plain_end end.now)
         (Raised raise) state.old state.new) }
+    ensures few { IfOk result (λ ticks. ticks ≤ most_of_barriers
+        (plain_program compiled.entry.program.now).plan compiled.entry.code.now) }
 {
     if is_declaration(&end.last) {
-        return activation::raise_in_part(state, alloc, compiled.code, n, raise, end.at);
+        activation::raise_in_part(state, alloc, compiled.code, n, raise, end.at)?;
+        return Ok(0);
     }
     if is_statement(&end.last) {
         state.raise(n, Exception::Predefined(raise), end.at);
-        return Ok(());
+        return Ok(0);
     }
     finish(state, alloc, compiled, alternative, n, end, operands)
 }
@@ -108,17 +124,22 @@ fn concern(
     among: &Among,
     at: Pos,
     operands: &Operands,
-) -> Result<(), AllocError>
+) -> Result<u64, AllocError>
     requires { EndingFine (plain_among among.now) (counts_of operands.now) }
-    ensures { OnOk result (DoesAsked (plain_program compiled.entry.program.now).plan
+    ensures does { OnOk result (DoesAsked (plain_program compiled.entry.program.now).plan
         compiled.entry.code.now compiled.entry.limits alternative n
         (asked_end (plain_among among.now) 0 at (scene n state.old) operands.now)
         state.old state.new) }
+    ensures few { IfOk result (λ ticks. ticks ≤ most_of_barriers
+        (plain_program compiled.entry.program.now).plan compiled.entry.code.now) }
 {
     match among {
-        Among::DeclareTasks(tasks) => declare(state, alloc, compiled, n, tasks, at),
-        Among::Activate => activate(state, alloc, compiled, n, at),
-        Among::Activated => end_activation(state, compiled, n),
+        Among::DeclareTasks(tasks) => declare(state, alloc, compiled, n, tasks, at)?,
+        Among::DeclareObject(declaration) => {
+            objects::declare(state, alloc, compiled, n, *declaration, at, operands)?;
+        }
+        Among::Activate => activate(state, alloc, compiled, n, at)?,
+        Among::Activated => end_activation(state, compiled, n)?,
         Among::Call { entry, kind, .. } => entries::call(
             state,
             alloc,
@@ -129,8 +150,21 @@ fn concern(
             *kind,
             at,
             operands,
-        ),
-        Among::Delay => entries::delay(state, alloc, compiled, n, at, operands),
+        )?,
+        Among::CallObject {
+            object,
+            entry,
+            kind,
+            ..
+        } => {
+            return objects::call(
+                state, alloc, compiled, n, *object, *entry, *kind, at, operands,
+            );
+        }
+        Among::Operation { object, unit } => {
+            objects::start(state, alloc, compiled, n, *object, *unit, at, operands)?;
+        }
+        Among::Delay => entries::delay(state, alloc, compiled, n, at, operands)?,
         Among::Accept { entry, region, .. } => {
             let accept = OpenAccept {
                 alternative: 0,
@@ -138,7 +172,7 @@ fn concern(
                 at,
                 region: *region,
             };
-            entries::accept(state, alloc, compiled, n, accept)
+            entries::accept(state, alloc, compiled, n, accept)?;
         }
         Among::Select { has_else, .. } => entries::select(
             state,
@@ -149,8 +183,9 @@ fn concern(
             *has_else,
             at,
             operands,
-        ),
+        )?,
     }
+    Ok(0)
 }
 
 // What it does that concerns the task alone.
@@ -250,11 +285,14 @@ fn is_too_long(last: &Last) -> bool
     }
 }
 
-// Whether it is a declaration with a value.
+// Whether it is a declaration of a variable with a value, or of an object.
 fn is_declaration(last: &Last) -> bool
     ensures { result ≡ is_declaration last.now }
 {
-    matches!(last, Last::Does(Ending::Declare { .. }, _))
+    matches!(
+        last,
+        Last::Does(Ending::Declare { .. }, _) | Last::Concerns(Among::DeclareObject(_), _)
+    )
 }
 
 // Whether what is evaluated before it may raise.

@@ -57,8 +57,8 @@ pub(crate) fn call(
     calling::call(state, alloc, compiled.code, alternative, call, task)
 }
 
-// How a call is made at this time, which waits for so long.
-fn form_of(kind: CallKind, clock: u64, delay: Duration) -> Result<Form, AllocError>
+/// How a call is made at this time, which waits for so long.
+pub(crate) fn form_of(kind: CallKind, clock: u64, delay: Duration) -> Result<Form, AllocError>
     ensures { IfOk result (λ form. form ≡ form_in (plain_kind kind) clock (milliseconds_in delay)) }
 {
     match kind {
@@ -71,7 +71,7 @@ fn form_of(kind: CallKind, clock: u64, delay: Duration) -> Result<Form, AllocErr
     }
 }
 
-fn copy_values(alloc: Global, values: &[Int32]) -> Result<Vec<Int32>, AllocError>
+pub(crate) fn copy_values(alloc: Global, values: &[Int32]) -> Result<Vec<Int32>, AllocError>
     ensures { IfOk result (λ copied. copied.items ≡ values.now) }
 {
     let mut copied = Vec::new(alloc);
@@ -79,7 +79,7 @@ fn copy_values(alloc: Global, values: &[Int32]) -> Result<Vec<Int32>, AllocError
     Ok(copied)
 }
 
-fn copy_backs(alloc: Global, backs: &[Back]) -> Result<Vec<Back>, AllocError>
+pub(crate) fn copy_backs(alloc: Global, backs: &[Back]) -> Result<Vec<Back>, AllocError>
     ensures { IfOk result (λ copied. copied.items ≡ backs.now) }
 {
     let mut copied = Vec::new(alloc);

@@ -2,6 +2,7 @@
 #![tactic(auto)]
 
 mod act;
+mod barriers;
 mod choice;
 pub mod coming;
 pub mod compiled;
@@ -10,6 +11,7 @@ mod endings;
 mod entries;
 mod leave;
 pub mod moves;
+mod objects;
 pub mod run;
 pub mod status;
 mod step;

@@ -4,22 +4,26 @@ ghost use Rattle.std.specs.Prelude.{◌≡◌, ◌<◌, ◌-◌, ◌^◌, ℕ, [
 ghost use Rattle.aud_typed.specs.Tree.{Plan};
 ghost use Rattle.aud_typed.specs.Ties.View.{plain_program};
 ghost use Rattle.aud_meaning.specs.Parts.{is_terminated, own_of};
-ghost use Rattle.aud_meaning.specs.Run.{acting_moves, cancelling, moves_at, seen, state_at, turn_moves};
+ghost use Rattle.aud_meaning.specs.Run.{acting_moves, cancelling, moves_at, seen, serve_moves, state_at, turn_moves};
+ghost use Rattle.aud_meaning.specs.Tasks.{eligible};
 ghost use Rattle.aud_code.specs.Flat.{barrier_at, flat_controls, Flat};
 ghost use Rattle.aud_tasks.specs.Enabled.{enabled_moves};
 ghost use Rattle.aud_code.specs.Starts.{AreSpots};
-ghost use Rattle.aud_tasks.specs.Choices.{ComesTo};
+ghost use Rattle.aud_tasks.specs.Choices.{ComesTo, IsNoStart};
 ghost use Rattle.aud_tasks.specs.Moving.{alone_if, has_some, moves_behind, moves_of, picked, IsNextMover};
 ghost use Rattle.aud_tasks.specs.Turning.{coming_in};
 
-use crate::choice::{Choice, choice_at, is_simple};
+use crate::barriers::Evaluator;
+use crate::choice::{Choice, choice_at, is_simple, start_at};
 use crate::compiled::Compiled;
 use crate::enabled::{Enabled, count, list, nth, only_move};
 use crate::times::soonest;
 use crate::turn::{Turn, turn_of};
 use aud_code::sound_code::SoundCode;
 use aud_expr::operands::Operands;
+use aud_masters::ending::closable;
 use aud_meaning::state::{Move, OpenDelay, State as Standing, Status};
+use aud_protected::barriers::{EligibleEntries, eligible};
 use aud_select::selecting::open_set;
 use aud_state::state::State;
 use std::alloc::{AllocError, Global};
@@ -66,7 +70,7 @@ pub(crate) fn list_moves(
         if state.rests(task) {
             continue;
         }
-        let enabled = enabled_of(state, alloc, compiled.code, operands, task)?;
+        let enabled = enabled_of(state, alloc, compiled, operands, task)?;
         list(&enabled, task, clock, moves)?;
     }
     Ok(())
@@ -100,7 +104,7 @@ pub(crate) fn nth_move(
         if left == 0 && acts_simply(state, compiled.code, task) {
             return Ok(Some(only_move(task)));
         }
-        let enabled = enabled_of(state, alloc, compiled.code, operands, task)?;
+        let enabled = enabled_of(state, alloc, compiled, operands, task)?;
         if let Some(found) = nth(&enabled, task, clock, left) {
             return Ok(Some(found));
         }
@@ -110,15 +114,15 @@ pub(crate) fn nth_move(
 }
 
 /// The first task from this number on that has a move.
-pub(crate) fn next_mover(state: &State, code: &SoundCode, from: usize) -> Option<usize>
-    ensures some { IfSome result (λ task. (plan : Plan) → plan.objects ≡ [] →
-        IsNextMover plan code.now from task state.now) }
-    ensures none { IfNone result ((plan : Plan) → plan.objects ≡ [] →
-        moves_behind plan code.now from state.now ≡ []) }
+pub(crate) fn next_mover(state: &State, compiled: Compiled<'_>, from: usize) -> Option<usize>
+    ensures some { IfSome result (λ task. IsNextMover (plain_program compiled.entry.program.now).plan
+        compiled.entry.code.now from task state.now) }
+    ensures none { IfNone result (moves_behind (plain_program compiled.entry.program.now).plan
+        compiled.entry.code.now from state.now ≡ []) }
     ensures few { IfSome result (λ task. task < 2 ^ 64 - 1) }
 {
     for task in from..state.len() {
-        if has_move(state, code, task) {
+        if has_move(state, compiled, task) {
             return Some(task);
         }
     }
@@ -136,7 +140,7 @@ pub fn state_of(state: &State, compiled: Compiled<'_>) -> Standing
     if state.is_cut() {
         return Standing::OutputFull;
     }
-    match next_mover(state, compiled.code, 0) {
+    match next_mover(state, compiled, 0) {
         Some(_) => Standing::More,
         None => match soonest(state, compiled.code) {
             Some(time) => Standing::Waiting(time),
@@ -160,22 +164,23 @@ pub(crate) fn may_move(state: &State) -> bool
 }
 
 /// Whether the task of this number has a move.
-pub(crate) fn has_move(state: &State, code: &SoundCode, task: usize) -> bool
-    ensures { (plan : Plan) → plan.objects ≡ [] →
-        result ≡ has_some (moves_of plan code.now task state.now) }
+pub(crate) fn has_move(state: &State, compiled: Compiled<'_>, task: usize) -> bool
+    requires { task < length state.now.tasks }
+    ensures { result ≡ has_some (moves_of (plain_program compiled.entry.program.now).plan
+        compiled.entry.code.now task state.now) }
 {
     if state.rests(task) {
         return false;
     }
-    match turn_of(state, code, task) {
+    match turn_of(state, compiled.code, task) {
         Turn::Resting => false,
-        Turn::Closing => state.closable(state.body_master(task)),
+        Turn::Closing => closable(state, state.body_master(task)),
         Turn::Completing => true,
         Turn::Serving(_) => true,
         Turn::Withdrawing(object) => state.is_idle(object),
         Turn::Expiring => has_ended_delay(state.delays(task), task, state.clock()),
         Turn::Cancelling => can_be_cancelled(state, task),
-        Turn::Acting => can_act(state, code, task),
+        Turn::Acting => can_act(state, compiled, task),
     }
 }
 
@@ -201,24 +206,24 @@ fn acts_simply(state: &State, code: &SoundCode, task: usize) -> bool
 fn enabled_of<'a>(
     state: &'a State,
     alloc: Global,
-    code: &SoundCode,
+    compiled: Compiled<'_>,
     operands: &mut Operands,
     task: usize,
 ) -> Result<Enabled<'a>, AllocError>
-    requires spots { AreSpots code.now.lines state.now.tasks }
+    requires spots { AreSpots compiled.code.now.lines state.now.tasks }
     requires within { task < length state.now.tasks }
-    ensures { IfOk result (λ enabled. (plan : Plan) → plan.objects ≡ [] →
-        enabled_moves task state.now.clock enabled ≡ moves_of plan code.now task state.now) }
+    ensures { IfOk result (λ enabled. enabled_moves task state.now.clock enabled
+        ≡ moves_of (plain_program compiled.entry.program.now).plan compiled.entry.code.now task state.now) }
 {
-    match turn_of(state, code, task) {
+    match turn_of(state, compiled.code, task) {
         Turn::Resting => Ok(Enabled::None),
-        Turn::Closing => Ok(one_if(state.closable(state.body_master(task)))),
+        Turn::Closing => Ok(one_if(closable(state, state.body_master(task)))),
         Turn::Completing => Ok(Enabled::One),
-        Turn::Serving(_) => Ok(Enabled::One),
+        Turn::Serving(serving) => serves(state, alloc, compiled, serving.object),
         Turn::Withdrawing(object) => Ok(one_if(state.is_idle(object))),
         Turn::Expiring => Ok(Enabled::Delays(state.delays(task))),
         Turn::Cancelling => Ok(one_if(can_be_cancelled(state, task))),
-        Turn::Acting => acting(state, alloc, code, operands, task),
+        Turn::Acting => acting(state, alloc, compiled, operands, task),
     }
 }
 
@@ -226,22 +231,42 @@ fn enabled_of<'a>(
 fn acting<'a>(
     state: &'a State,
     alloc: Global,
-    code: &SoundCode,
+    compiled: Compiled<'_>,
     operands: &mut Operands,
     task: usize,
 ) -> Result<Enabled<'a>, AllocError>
-    requires spots { AreSpots code.now.lines state.now.tasks }
+    requires spots { AreSpots compiled.code.now.lines state.now.tasks }
     requires within { task < length state.now.tasks }
-    ensures { IfOk result (λ enabled. (plan : Plan) → enabled_moves task state.now.clock enabled
-        ≡ acting_moves plan (barrier_at code.now) (coming_in plan code.now task state.now) task
-        (seen plan (flat_controls plan code.now) state.now)) }
+    ensures { IfOk result (λ enabled. let plan = (plain_program compiled.entry.program.now).plan in
+        let code = compiled.entry.code.now in enabled_moves task state.now.clock enabled
+        ≡ acting_moves plan (barrier_at code) (coming_in plan code task state.now) task
+        (seen plan (flat_controls plan code) state.now)) }
 {
+    let code = compiled.code;
     if is_simple(state, code, task) {
         return Ok(Enabled::One);
     }
     match choice_at(state, code, task) {
-        None => Ok(one_if(can_act(state, code, task))),
+        None => Ok(one_if(can_act(state, compiled, task))),
         Some(choice) => choose(state, alloc, code, operands, task, choice),
+    }
+}
+
+// Those of one that services an object: one for each entry that is eligible.
+fn serves<'a>(
+    state: &State,
+    alloc: Global,
+    compiled: Compiled<'_>,
+    object: usize,
+) -> Result<Enabled<'a>, AllocError>
+    ensures { IfOk result (λ enabled. let plan = (plain_program compiled.entry.program.now).plan in
+        let code = compiled.entry.code.now in (task : ℕ) → enabled_moves task state.now.clock enabled
+        ≡ serve_moves plan (barrier_at code) (eligible plan (barrier_at code) object state.now) task) }
+{
+    let mut barriers = Evaluator::new(alloc, compiled);
+    match eligible(state, alloc, &mut barriers, object)? {
+        EligibleEntries::Raises(_) => Ok(Enabled::One),
+        EligibleEntries::Are(entries) => Ok(Enabled::Alternatives(entries)),
     }
 }
 
@@ -302,13 +327,29 @@ fn can_be_cancelled(state: &State, task: usize) -> bool
     }
 }
 
-// Whether its own next step is enabled: not where others keep the master that it leaves.
-fn can_act(state: &State, code: &SoundCode, task: usize) -> bool
-    ensures { (plan : Plan) → result ≡ has_some (acting_moves plan (barrier_at code.now)
+// Whether its own next step is enabled: not where an action of another is in the way of a call, nor where others keep the master that
+// it leaves.
+fn can_act(state: &State, compiled: Compiled<'_>, task: usize) -> bool
+    requires { task < length state.now.tasks }
+    ensures { let plan = (plain_program compiled.entry.program.now).plan in
+        let code = compiled.entry.code.now in
+        result ≡ has_some (acting_moves plan (barrier_at code)
+        (coming_in plan code task state.now) task (seen plan (flat_controls plan code) state.now)) }
+{
+    match start_at(state, compiled, task) {
+        Some(start) => !state.is_in_the_way(task, start.reading, start.object),
+        None => can_leave(state, compiled.code, task),
+    }
+}
+
+// Whether no others keep the master that it leaves, if it leaves one.
+fn can_leave(state: &State, code: &SoundCode, task: usize) -> bool
+    ensures { (plan : Plan) → IsNoStart (coming_in plan code.now task state.now) →
+        result ≡ has_some (acting_moves plan (barrier_at code.now)
         (coming_in plan code.now task state.now) task (seen plan (flat_controls plan code.now) state.now)) }
 {
     match state.master_left(code, task) {
-        Some(master) => state.closable(master),
+        Some(master) => closable(state, master),
         None => true,
     }
 }

@@ -1,8 +1,9 @@
 // What tasks are doing.
 
-ghost use Rattle.std.specs.Prelude.{◌≡◌, ◌&&◌, [], not, true, false, Bool, Result, ℕ};
+ghost use Rattle.std.specs.Prelude.{◌≡◌, ◌<◌, ◌&&◌, length, not, true, false, Bool, Result, ℕ};
 ghost use Rattle.aud_text.specs.declared.raise.Raise.{Raise as RaiseOf};
 ghost use Rattle.aud_typed.specs.Tree.{Plan};
+ghost use Rattle.aud_typed.specs.Ties.View.{plain_program};
 ghost use Rattle.aud_meaning.specs.Evaluation.{Sight};
 ghost use Rattle.aud_meaning.specs.Listings.{call_word, is_done, ready_or, running_word, turn_leaves};
 ghost use Rattle.aud_meaning.specs.Parts.{call_of, own_of};
@@ -11,6 +12,7 @@ ghost use Rattle.aud_tasks.specs.Moving.{moves_of};
 ghost use Rattle.aud_tasks.specs.Shown.{status_if, status_in, words_of};
 ghost use Rattle.aud_tasks.specs.Turning.{turn_in};
 
+use crate::compiled::Compiled;
 use crate::moves::has_move;
 use crate::turn::{Turn, turn_of};
 use aud_code::sound_code::SoundCode;
@@ -36,14 +38,15 @@ pub enum Shown {
 }
 
 /// What the task of this number, counted from 0, is doing.
-pub fn status_of(state: &State, code: &SoundCode, task: usize) -> Shown
-    ensures { (plan : Plan) → plan.objects ≡ [] →
-        words_of result ≡ status_in plan code.now task state.now }
+pub fn status_of(state: &State, compiled: Compiled<'_>, task: usize) -> Shown
+    requires { task < length state.now.tasks }
+    ensures { words_of result ≡ status_in (plain_program compiled.entry.program.now).plan
+        compiled.entry.code.now task state.now }
 {
     if state.is_servicing(task) {
         servicing(state, task)
     } else {
-        otherwise(state, code, task)
+        otherwise(state, compiled, task)
     }
 }
 
@@ -89,53 +92,60 @@ fn servicing(state: &State, task: usize) -> Shown
 }
 
 // What any other is doing.
-fn otherwise(state: &State, code: &SoundCode, task: usize) -> Shown
-    ensures { (plan : Plan) → plan.objects ≡ [] →
-        words_of result ≡ status_if false plan code.now task state.now }
+fn otherwise(state: &State, compiled: Compiled<'_>, task: usize) -> Shown
+    requires { task < length state.now.tasks }
+    ensures { words_of result ≡ status_if false (plain_program compiled.entry.program.now).plan
+        compiled.entry.code.now task state.now }
 {
     match state.status(task) {
         Status::Created => Shown::Created,
-        Status::Running => running(state, code, task),
+        Status::Running => running(state, compiled, task),
         Status::Activating => Shown::Activation,
         Status::Accepting => Shown::Accept,
         Status::Delaying => Shown::Delay,
-        Status::Calling => calling(state, code, task),
+        Status::Calling => calling(state, compiled, task),
         Status::Completed => Shown::Completed,
         Status::Terminated => Shown::Terminated,
     }
 }
 
 // What one is doing that runs.
-fn running(state: &State, code: &SoundCode, task: usize) -> Shown
-    ensures { (plan : Plan) → plan.objects ≡ [] → words_of result ≡ running_word plan (barrier_at code.now)
-        (turn_leaves plan (barrier_at code.now) (turn_in plan code.now task state.now) (own_of task state.now))
-        (moves_of plan code.now task state.now) }
+fn running(state: &State, compiled: Compiled<'_>, task: usize) -> Shown
+    requires { task < length state.now.tasks }
+    ensures { let plan = (plain_program compiled.entry.program.now).plan in
+        let code = compiled.entry.code.now in words_of result ≡ running_word plan (barrier_at code)
+        (turn_leaves plan (barrier_at code) (turn_in plan code task state.now) (own_of task state.now))
+        (moves_of plan code task state.now) }
 {
-    if leaves(state, code, task) {
-        ready_or(state, code, task, Shown::Master)
+    if leaves(state, compiled.code, task) {
+        ready_or(state, compiled, task, Shown::Master)
     } else {
-        ready_or(state, code, task, Shown::Object)
+        ready_or(state, compiled, task, Shown::Object)
     }
 }
 
 // What one is doing that is blocked at an entry call.
-fn calling(state: &State, code: &SoundCode, task: usize) -> Shown
-    ensures { (plan : Plan) → plan.objects ≡ [] → words_of result ≡ call_word plan (barrier_at code.now)
-        (call_of (own_of task state.now).call state.now).state (moves_of plan code.now task state.now) }
+fn calling(state: &State, compiled: Compiled<'_>, task: usize) -> Shown
+    requires { task < length state.now.tasks }
+    ensures { let plan = (plain_program compiled.entry.program.now).plan in
+        let code = compiled.entry.code.now in words_of result ≡ call_word plan (barrier_at code)
+        (call_of (own_of task state.now).call state.now).state (moves_of plan code task state.now) }
 {
     match state.call_state(state.call(task)) {
         CallState::Queued => Shown::Queued,
         CallState::Selected => Shown::Rendezvous,
-        CallState::Done | CallState::Cancelled => ready_or(state, code, task, Shown::Object),
+        CallState::Done | CallState::Cancelled => ready_or(state, compiled, task, Shown::Object),
     }
 }
 
 // Ready where it has a move.
-fn ready_or(state: &State, code: &SoundCode, task: usize, other: Shown) -> Shown
-    ensures { (plan : Plan) → plan.objects ≡ [] → words_of result ≡ ready_or plan (barrier_at code.now)
-        (words_of other) (moves_of plan code.now task state.now) }
+fn ready_or(state: &State, compiled: Compiled<'_>, task: usize, other: Shown) -> Shown
+    requires { task < length state.now.tasks }
+    ensures { let plan = (plain_program compiled.entry.program.now).plan in
+        let code = compiled.entry.code.now in words_of result ≡ ready_or plan (barrier_at code)
+        (words_of other) (moves_of plan code task state.now) }
 {
-    if has_move(state, code, task) {
+    if has_move(state, compiled, task) {
         Shown::Ready
     } else {
         other

@@ -1,21 +1,25 @@
 // One step of a task.
 
-ghost use Rattle.std.specs.Prelude.{◌≡◌, ◌<◌, ◌≤◌, ◌*◌, IfOk, length};
+ghost use Rattle.std.specs.Prelude.{◌≡◌, ◌<◌, ◌≤◌, IfOk, OnOk, length};
 ghost use Rattle.aud_typed.specs.Ties.View.{plain_program};
 ghost use Rattle.aud_meaning.specs.Run.{alternative_or_none, step_with};
-ghost use Rattle.aud_code.specs.Flat.{flat_controls};
+ghost use Rattle.aud_meaning.specs.Tasks.{serves};
+ghost use Rattle.aud_code.specs.Control.{going};
+ghost use Rattle.aud_code.specs.Flat.{barrier_at, flat_controls};
 ghost use Rattle.aud_code.specs.Sound.{IsSound};
 ghost use Rattle.aud_code.specs.Starts.{AreSpots};
 ghost use Rattle.aud_tasks.specs.Acting.{TakesTurn};
-ghost use Rattle.aud_expr.specs.Size.{size};
+ghost use Rattle.aud_tasks.specs.Counting.{most_of_barriers, most_ticks};
 
 use crate::act::act;
+use crate::barriers::Evaluator;
 use crate::compiled::Compiled;
 use crate::turn::{Turn, turn_of};
 use aud_code::sound_code::SoundCode;
 use aud_expr::operands::Operands;
 use aud_masters::{completion, ending};
-use aud_meaning::state::Move;
+use aud_meaning::state::{Move, Serving};
+use aud_protected::{cancelling, servicing};
 use aud_select::expiring;
 use aud_state::state::State;
 use aud_text::limits::STEPS;
@@ -37,7 +41,8 @@ pub(crate) fn step(
         (flat_controls (plain_program compiled.entry.program.now).plan compiled.entry.code.now)
         compiled.entry.limits state.old taken) }
     ensures spots { IfOk result (λ _. AreSpots compiled.entry.code.now.lines state.new.tasks) }
-    ensures few { IfOk result (λ ticks. ticks ≤ 2 * size compiled.entry.code.now) }
+    ensures few { IfOk result (λ ticks. ticks ≤ most_ticks
+        (plain_program compiled.entry.program.now).plan compiled.entry.code.now) }
 {
     sound_law(compiled.code);
     if taken.task >= state.len() {
@@ -61,7 +66,8 @@ fn take_turn(
     requires spots { AreSpots compiled.code.now.lines state.old.tasks }
     ensures takes { IfOk result (λ _. TakesTurn (plain_program compiled.entry.program.now).plan
         compiled.entry.code.now compiled.entry.limits taken next state.old state.new) }
-    ensures few { IfOk result (λ ticks. ticks ≤ size compiled.entry.code.now) }
+    ensures few { IfOk result (λ ticks. ticks ≤ most_ticks
+        (plain_program compiled.entry.program.now).plan compiled.entry.code.now) }
 {
     let n = taken.task;
     match next {
@@ -79,13 +85,39 @@ fn take_turn(
             Ok(0)
         }
         Turn::Cancelling => {
-            expiring::timed(state, compiled.code, n)?;
-            Ok(0)
+            let mut barriers = Evaluator::new(alloc, compiled);
+            cancelling::expire(state, alloc, compiled.code, &mut barriers, n)?;
+            Ok(barriers.ticks())
         }
+        Turn::Withdrawing(object) => {
+            let mut barriers = Evaluator::new(alloc, compiled);
+            cancelling::withdraw(state, alloc, compiled.code, &mut barriers, object, n)?;
+            Ok(barriers.ticks())
+        }
+        Turn::Serving(serving) => serve(state, alloc, compiled, serving, taken.alternative, n),
         Turn::Acting => act(state, alloc, compiled, taken.alternative, n, operands),
-        // No program that is loaded comes to these: they want protected objects.
-        Turn::Withdrawing(_) | Turn::Serving(_) => Err(AllocError),
     }
+}
+
+// A task services an object, by the entry that its move picks.
+fn serve(
+    state: &mut State,
+    alloc: Global,
+    compiled: Compiled<'_>,
+    serving: Serving,
+    index: Option<usize>,
+    n: usize,
+) -> Result<u64, AllocError>
+    ensures does { OnOk result (state.new ≡ serves (going compiled.entry.code.now)
+        (plain_program compiled.entry.program.now).plan (barrier_at compiled.entry.code.now) index serving n
+        state.old) }
+    ensures few { IfOk result (λ ticks. ticks ≤ most_of_barriers
+        (plain_program compiled.entry.program.now).plan compiled.entry.code.now) }
+{
+    let code = compiled.code;
+    let mut barriers = Evaluator::new(alloc, compiled);
+    servicing::serve(state, alloc, code, &mut barriers, index, serving, n)?;
+    Ok(barriers.ticks())
 }
 
 // The alternative that a move picks, or 0.

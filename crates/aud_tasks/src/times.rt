@@ -1,6 +1,6 @@
 // The times that tasks wait for.
 
-ghost use Rattle.std.specs.Prelude.{◌≡◌, ℕ, None, Option, map};
+ghost use Rattle.std.specs.Prelude.{◌≡◌, None, Option, map};
 ghost use Rattle.aud_typed.specs.Tree.{Plan};
 ghost use Rattle.aud_meaning.specs.Run.{seen, times_from};
 ghost use Rattle.aud_meaning.specs.declared.state.OpenDelay.{OpenDelay as Open};

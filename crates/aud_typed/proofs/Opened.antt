@@ -87,7 +87,7 @@ block_open (BlockStatement' at region b) = ap (tree.block at region) (body_open 
 pub entry_call_open : (b : Box EntryCallStatement Global) → plain_statement (EntryCall b) ≡ entry_call_in b.value
 entry_call_open b =
     let o = b.value in
-    let call = plain_call o.task o.entry o.arguments.items o.form in
+    let call = plain_call o.callee o.entry o.arguments.items o.form in
     ap (λ z. tree.entry_call o.at call (part_of z) (part_of (plain_row (hidden-the_row-Statement-0 o.otherwise)))) (others_are o.after)
     ∙ ap (λ z. tree.entry_call o.at call (part_of (map plain_statement o.after.items)) (part_of z)) (others_are o.otherwise)
 

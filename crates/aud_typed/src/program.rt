@@ -90,7 +90,7 @@ pub enum IntegerExpression {
     Unary(Unary, Box<IntegerExpression>),
     /// An operand, and operations one after the other on what stands before them.
     Chain(Box<IntegerExpression>, Vec<Operation>),
-    /// How many calls are queued on an entry of the task whose number is in the variable (RM 9.9(5)).
+    /// How many calls are queued on an entry of the task or protected object whose number is in the variable (RM 9.9(5)).
     Count(Variable, usize),
 }
 
@@ -159,6 +159,22 @@ pub enum Argument {
     ByValue(ValueExpression),
     /// The variable of a formal of this subtype, of mode in out where the flag holds, and else out.
     ByCopy(bool, Subtype, Reference),
+}
+
+/// A call of the procedure or function whose unit has this number, with these arguments, and what the value of a function is
+/// assigned to (RM 6.4).
+#[derive(Drop)]
+pub struct Calling {
+    pub unit: usize,
+    pub arguments: Vec<Argument>,
+    pub into: Option<Reference>,
+}
+
+/// Whose entry is called: a task's, or that of the protected object whose number is in the variable (RM 9.5.3).
+#[derive(Drop)]
+pub enum Callee {
+    Task(TaskName),
+    Object(Variable),
 }
 
 /// A text, which is put out.
@@ -247,6 +263,9 @@ pub enum Statement {
     DeclareArray(Pos, Subtype, usize),
     /// The next variable of the innermost frame: these tasks, which are created (RM 9.2(1)).
     DeclareTasks(Pos, Tasks),
+    /// The next variable of the innermost frame: a protected object of this declaration, with the initial values of its components
+    /// (RM 9.4).
+    DeclareObject(Pos, usize, Vec<ValueExpression>),
     /// The activation of the task ends whose body it stands in (RM 9.2(5)).
     Activated(Pos),
     Null(Pos),
@@ -267,8 +286,15 @@ pub enum Statement {
     Block(Box<BlockStatement>),
     /// The procedure is left in which it stands (RM 6.5).
     Return(Pos),
-    /// A call of the procedure whose unit has this number, with these arguments (RM 6.4).
-    ProcedureCall(Pos, usize, Vec<Argument>),
+    /// The function is left in which it stands, with this value (RM 6.5).
+    ReturnValue(Pos, ValueExpression),
+    /// A call of a procedure, or of an operation of the object in whose body it stands (RM 6.4, 9.5(3)).
+    ProcedureCall(Pos, Calling),
+    /// A call of an entry of the object in whose body it stands, which raises Program_Error once its arguments are
+    /// evaluated (RM 9.5.1(8 to 16)).
+    OwnEntryCall(Pos, Vec<Argument>, CallForm),
+    /// A call, from outside, of an operation of the protected object whose number is in the variable (RM 9.5(4)).
+    OperationCall(Pos, Variable, Calling),
     EntryCall(Box<EntryCallStatement>),
     /// RM 9.6.
     Delay(Pos, DelayExpression),
@@ -318,13 +344,13 @@ pub struct BlockStatement {
     pub body: Body,
 }
 
-/// A call of the entry of this number, of a task (RM 9.5.3); the statements behind the call of a conditional or timed one, and
-/// those behind its `else` or its delay, which are done where the call is left (RM 9.7.2, 9.7.3).
+/// A call of the entry of this number (RM 9.5.3); the statements behind the call of a conditional or timed one, and those behind
+/// its `else` or its delay, which are done where the call is left (RM 9.7.2, 9.7.3).
 #[derive(Drop)]
 #[cycle(statement)]
 pub struct EntryCallStatement {
     pub at: Pos,
-    pub task: TaskName,
+    pub callee: Callee,
     pub entry: usize,
     pub arguments: Vec<Argument>,
     pub form: CallForm,
@@ -421,19 +447,22 @@ pub enum Shown {
     Hidden(usize),
 }
 
-/// The name of a variable, constant or task, and how its value is shown.
+/// The name of a variable, constant, task or protected object, and how its value is shown.
 #[derive(Drop)]
 pub struct Named {
     pub name: Name,
     pub shown: Shown,
 }
 
-/// A procedure's body (RM 6.3), or a task's (RM 9.1): how many frames it sees besides its own, the number of the table of its
-/// formals and variables, and where it begins. The first variable of a task's body is the task's own number.
+/// A procedure's body (RM 6.3), a task's (RM 9.1), or that of an operation or entry of a protected object (RM 9.4): how many
+/// frames it sees besides its own, the number of the table of its formals and variables, whether it is a function's, and where it
+/// begins. The first variable of a task's body is the task's own number. Around the frame of an operation or entry body is that
+/// of its object: the object's own number, and the components.
 #[derive(Drop)]
 pub struct Unit {
     pub level: usize,
     pub region: usize,
+    pub is_function: bool,
     pub at: Pos,
     pub body: Body,
 }
@@ -445,15 +474,39 @@ pub struct TaskType {
     pub entries: Vec<usize>,
 }
 
-/// A typed program: its procedures and tasks, which have blocks and `for` loops.
+/// A declaration of a protected object: its name, and its entries, by their numbers (RM 9.4).
+#[derive(Drop)]
+pub struct ProtectedObject {
+    pub name: Name,
+    pub entries: Vec<usize>,
+}
+
+/// An entry of a task, which has no body, or of a protected object (RM 9.5.2).
+#[derive(Drop)]
+pub struct Entry {
+    pub name: Name,
+    pub body: Option<EntryBody>,
+}
+
+/// The unit that is the body of a protected entry, and its barrier (RM 9.5.2(7)).
+#[derive(Drop)]
+pub struct EntryBody {
+    pub unit: usize,
+    pub barrier: BooleanExpression,
+}
+
+/// A typed program: its procedures, tasks and protected objects, which have blocks and `for` loops.
 pub struct Program {
     pub name: Name,
-    /// The bodies of the procedures and tasks, in the order of their declarations: that of the main procedure first.
+    /// The bodies of procedures, tasks, operations and protected entries, in the order of their declarations: that of the main
+    /// procedure first.
     pub units: Vec<Unit>,
     /// The types of the tasks, in the order of their declarations.
     pub tasks: Vec<TaskType>,
-    /// The names of the tasks' entries, by their numbers.
-    pub entries: Vec<Name>,
+    /// The protected objects, in the order of their declarations.
+    pub objects: Vec<ProtectedObject>,
+    /// The entries of tasks and objects, by their numbers.
+    pub entries: Vec<Entry>,
     /// The formals, variables and constants of each frame, in the order of their declarations, by the frames' tables.
     pub regions: Vec<Vec<Named>>,
     /// The names of the exceptions that are declared, by their numbers.
@@ -467,6 +520,7 @@ impl Drop for Program {
             name: _,
             units: _,
             tasks: _,
+            objects: _,
             entries: _,
             regions: _,
             exceptions: _,

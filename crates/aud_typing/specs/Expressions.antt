@@ -31,20 +31,21 @@ use Rattle.aud_typed.specs.declared.program.Logical.TheVariants as logical
 use Rattle.aud_typed.specs.Tree as tree
 use Rattle.aud_fault.specs.declared.fault.Fault.{Fault}
 use Rattle.aud_names.specs.declared.names.Meaning.{Meaning}
-use Rattle.aud_names.specs.declared.names.Meaning.TheVariants.{ScalarType, Literal, Object, Array, Exception, Builtin, Procedure, TaskType, Task, TaskArray, Entry}
+use Rattle.aud_names.specs.declared.names.Meaning.TheVariants.{ScalarType, Literal, Object, Array, Exception, Builtin, Procedure, TaskType, Task, TaskArray, Entry, Protected, Operation, Barred}
 use Rattle.aud_names.specs.declared.names.Array as array
 use Rattle.aud_names.specs.declared.names.TaskArray as task_array
 use Rattle.aud_names.specs.declared.names.Entry as named_entry
 use Rattle.aud_names.specs.declared.names.Owner.{Owner}
+use Rattle.aud_names.specs.declared.names.Owner.TheVariants as owner
 use Rattle.aud_names.specs.declared.names.Owner.TheVariants.{Single, Element}
 use Rattle.aud_typing.specs.declared.attribute.Attribute.{Attribute}
 use Rattle.aud_typing.specs.declared.attribute.Attribute.TheVariants.{Image, First, Last, Length, Callable, Terminated, Count}
 use Rattle.aud_names.specs.declared.rules.Base.{Base}
 use Rattle.aud_names.specs.declared.rules.Base.TheVariants.{Whole, Truth, Text}
-use Rattle.aud_names.specs.Names.{Place, visible, is_own}
+use Rattle.aud_names.specs.Names.{Place, visible, is_countable}
 use Rattle.aud_names.specs.Arrays.{length_between, array_at, task_array_at}
-use Rattle.aud_names.specs.Resolution.{Resolved, resolved, name_ident, part_ident, part_args, are_none, last_args}
-use Rattle.aud_names.specs.Rules.{base_of_subtype, wrong_kind_of_name, right_type, wrong_number_of_arguments, accept_or_count_in_place, number_too_large}
+use Rattle.aud_names.specs.Resolution.{Resolved, resolved, name_ident, part_ident, part_args, are_none, last_args, is_function}
+use Rattle.aud_names.specs.Rules.{base_of_subtype, wrong_kind_of_name, right_type, wrong_number_of_arguments, accept_or_count_in_place, function_call_out_of_place, number_too_large}
 
 -- an expression with its type, unknown where the expression is faulty
 pub data Typed : Type 0 where
@@ -293,6 +294,10 @@ denoting_by r xs last = record {
 abbrev pub denoting : Name → Typed → Place → Denoting
 denoting n last place = denoting_by (resolved n place) (last_args n) last
 
+-- a function has a value, but not there
+abbrev pub value_faults : Meaning → Pos → List Fault
+value_faults m at = if is_function m then function_call_out_of_place at else wrong_kind_of_name at
+
 -- what is read must be a variable, an element or a constant, or False or True (RM 4.1, 4.4)
 abbrev pub read_faults : Meaning → Pos → List Fault
 read_faults (Object o) at = []
@@ -306,6 +311,9 @@ read_faults (TaskType n) at = wrong_kind_of_name at
 read_faults (Task v) at = wrong_kind_of_name at
 read_faults (TaskArray a) at = wrong_kind_of_name at
 read_faults (Entry e) at = wrong_kind_of_name at
+read_faults (Protected x) at = wrong_kind_of_name at
+read_faults (Operation o) at = value_faults (Operation o) at
+read_faults Barred at = wrong_kind_of_name at
 
 abbrev pub name_faults : Entity → Pos → List Fault
 name_faults no_entity at = []
@@ -385,6 +393,9 @@ image (TaskType n) prefix designator argument = faulty (wrong_kind_of_name prefi
 image (Task v) prefix designator argument = faulty (wrong_kind_of_name prefix)
 image (TaskArray a) prefix designator argument = faulty (wrong_kind_of_name prefix)
 image (Entry e) prefix designator argument = faulty (wrong_kind_of_name prefix)
+image (Protected x) prefix designator argument = faulty (wrong_kind_of_name prefix)
+image (Operation o) prefix designator argument = faulty (wrong_kind_of_name prefix)
+image Barred prefix designator argument = faulty (wrong_kind_of_name prefix)
 
 -- the bounds of Integer and its subtypes (RM 3.5(12, 13), 3.5.4(11, 12)), and of arrays (RM 3.6.2(3, 5)); those of Boolean are not in the profile
 abbrev pub first_of : Meaning → Option ℤ
@@ -430,10 +441,11 @@ abbrev pub asked : Option tree.BooleanExpression → Pos → Pos → Option (Pos
 asked None prefix designator argument = faulty (wrong_kind_of_name prefix)
 asked (Some e) prefix designator argument = without_argument designator argument (boolean e)
 
--- how many calls are queued on an entry of the task that runs the body
+-- how many calls are queued on an entry of the task that runs the body, or of the object whose body it is
 abbrev pub count_value : Owner → ℕ → Typed
 count_value (Single v) n = number (tree.count v n)
 count_value (Element a) n = unknown
+count_value (owner.Object x) n = number (tree.count x.variable n)
 
 abbrev pub count_if : Bool → named_entry.Entry → Typed
 count_if good e = if good then count_value e.owner e.number else unknown
@@ -444,8 +456,8 @@ no_arguments xs at = if are_none xs then [] else wrong_kind_of_name at
 
 abbrev pub counted : named_entry.Entry → Args → Pos → Place → Checked
 counted e xs at place = record {
-  faults = no_arguments xs at ++ accept_or_count_in_place (is_own e place) at;
-  typed = count_if (are_none xs && is_own e place) e;
+  faults = no_arguments xs at ++ accept_or_count_in_place (is_countable e place) at;
+  typed = count_if (are_none xs && is_countable e place) e;
 }
 
 -- RM 9.9(5)
@@ -463,10 +475,11 @@ attribute_of Callable m xs prefix designator argument place = asked (callable_of
 attribute_of Terminated m xs prefix designator argument place = asked (terminated_of m) prefix designator argument
 attribute_of Count m xs prefix designator argument place = count m xs prefix designator argument place
 
--- the designator must be an attribute's
+-- the designator must be an attribute's, and a function's call does not stand before it
 abbrev pub attribute_named : Option Attribute → Meaning → Args → Pos → Pos → Option (Pos × Typed) → Place → Checked
 attribute_named None m xs prefix designator argument place = faulty (wrong_kind_of_name designator)
-attribute_named (Some a) m xs prefix designator argument place = attribute_of a m xs prefix designator argument place
+attribute_named (Some a) m xs prefix designator argument place =
+    if is_function m then faulty (function_call_out_of_place prefix) else attribute_of a m xs prefix designator argument place
 
 -- an element has none but Image (RM 4.10(40))
 abbrev pub element_attribute : Option Attribute → Typed → Pos → Pos → Option (Pos × Typed) → Checked

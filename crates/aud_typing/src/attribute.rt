@@ -4,7 +4,7 @@ ghost use Rattle.std.specs.Prelude.{◌≡◌, option_map};
 ghost use Rattle.std.specs.Str.{bytes_eq};
 ghost use Rattle.std.specs.Map.{lookup};
 ghost use Rattle.aud_names.specs.Resolution.{are_none};
-ghost use Rattle.aud_names.specs.Rules.{wrong_kind_of_name};
+ghost use Rattle.aud_names.specs.Rules.{wrong_kind_of_name, function_call_out_of_place};
 ghost use Rattle.aud_typing.specs.Expressions.{unknown, attributes, without_argument, image_of, image_of_type, image_with, image, first_of, last_of, at_most_last, length_of, bound, callable_of, terminated_of, asked, count_value, count_if, no_arguments, counted, count, attribute_of, entity, element_attribute, task_attribute, attribute_if};
 ghost use Rattle.aud_syntax.specs.Ties.View.{plain_expressions};
 ghost use Rattle.aud_typed.specs.Ties.View.{plain_boolean, plain_task};
@@ -18,9 +18,10 @@ use aud_fault::fault::Least;
 use aud_names::array::length_between;
 use aud_names::behind::Made;
 use aud_names::names::{Entry, Meaning, Owner, Scope};
-use aud_names::resolution::are_none;
+use aud_names::resolution::{are_none, is_function};
 use aud_names::rules::{
-    Base, accept_or_count_in_place, base_of_subtype, wrong_kind_of_name, wrong_number_of_arguments,
+    Base, accept_or_count_in_place, base_of_subtype, function_call_out_of_place,
+    wrong_kind_of_name, wrong_number_of_arguments,
 };
 use aud_names::table::listed;
 use aud_syntax::tree::{Expression, Ident};
@@ -132,6 +133,16 @@ fn wrong_kind(at: Pos, argument: Option<Operand>, faults: &mut Least) -> Typed
     Typed::Unknown
 }
 
+// What an attribute of a function's call is: nothing.
+fn out_of_place(at: Pos, argument: Option<Operand>, faults: &mut Least) -> Typed
+    ensures typed { plain_typed result ≡ unknown }
+    ensures noted { faults.new ≡ noted faults.old (function_call_out_of_place at) }
+{
+    drop(argument);
+    function_call_out_of_place(at, faults);
+    Typed::Unknown
+}
+
 fn image(meaning: Meaning, at: Places, argument: Option<Operand>, faults: &mut Least) -> Typed
     ensures typed { plain_typed result
         ≡ (image meaning at.prefix at.designator (plain_argument argument)).typed }
@@ -158,7 +169,10 @@ fn image(meaning: Meaning, at: Places, argument: Option<Operand>, faults: &mut L
         | Meaning::TaskType(_)
         | Meaning::Task(_)
         | Meaning::TaskArray(_)
-        | Meaning::Entry(_) => wrong_kind(at.prefix, argument, faults),
+        | Meaning::Entry(_)
+        | Meaning::Protected(_)
+        | Meaning::Operation(_)
+        | Meaning::Barred => wrong_kind(at.prefix, argument, faults),
     }
 }
 
@@ -266,6 +280,9 @@ fn count_value(owner: Owner, number: usize) -> Typed
     match owner {
         Owner::Single(cell) => Typed::Number(IntegerExpression::Count(cell, number)),
         Owner::Element(_) => Typed::Unknown,
+        Owner::Object(instance) => {
+            Typed::Number(IntegerExpression::Count(instance.variable, number))
+        }
     }
 }
 
@@ -307,9 +324,9 @@ fn counted(
         (counted entry (plain_expressions args.now) at scope.now).faults }
 {
     let alone = no_arguments(args, at, faults);
-    let own = scope.is_own(entry);
-    accept_or_count_in_place(own, at, faults);
-    count_if(alone && own, entry)
+    let countable = scope.is_countable(entry);
+    accept_or_count_in_place(countable, at, faults);
+    count_if(alone && countable, entry)
 }
 
 // Count of what has a meaning and these arguments, if that is an entry (RM 9.9(5)).
@@ -384,6 +401,9 @@ fn meaning_attribute(
     match attribute_named(&designator.name) {
         None => wrong_kind(designator.at, argument, faults),
         Some(attribute) => {
+            if is_function(meaning) {
+                return out_of_place(prefix, argument, faults);
+            }
             let at = Places {
                 prefix,
                 designator: designator.at,

@@ -29,7 +29,7 @@ module _ (known : Known) (scope : Scope) where
   meaning_scoped (Object o) h = object_scoped o.variable o.subtype h
   meaning_scoped _ h = tt
 
-  reference_scoped : (x : Entity) → EntityScoped known scope x → IfSome (a.reference_of x) (λ r. ReferenceScoped r scope)
+  pub reference_scoped : (x : Entity) → EntityScoped known scope x → IfSome (a.reference_of x) (λ r. ReferenceScoped r scope)
   reference_scoped no_entity h = tt
   reference_scoped (entity m) h = meaning_scoped m h
   reference_scoped (element_of x index None) h = tt

@@ -17,12 +17,14 @@ use Rattle.aud_fault.specs.declared.fault.Fault.{Fault}
 use Rattle.aud_names.specs.declared.names.NamedParameter.{NamedParameter}
 use Rattle.aud_names.specs.declared.names.Parameter.{Parameter}
 use Rattle.aud_names.specs.declared.awaited.Awaited.{Awaited}
+use Rattle.aud_names.specs.declared.awaited.AwaitedObject.{AwaitedObject}
+use Rattle.aud_names.specs.declared.parts.ObjectPart.{ObjectPart}
 use Rattle.aud_names.specs.declared.entries.EntryName.{EntryName}
 use Rattle.aud_names.specs.declared.names.Owner.TheVariants.{Single}
 use Rattle.aud_names.specs.declared.names.Meaning.{Meaning}
 use Rattle.aud_names.specs.declared.names.Meaning.TheVariants.{Procedure, Exception, TaskType, Entry}
 use Rattle.aud_names.specs.declared.array.Kind.{Kind}
-use Rattle.aud_names.specs.declared.array.Kind.TheVariants.{Scalar, Row, Task, TaskRow}
+use Rattle.aud_names.specs.declared.array.Kind.TheVariants.{Scalar, Row, Task, TaskRow, Protected}
 use Rattle.aud_names.specs.Arrays as arrays
 use Rattle.aud_names.specs.Names as names
 use Rattle.aud_names.specs.Names.{Symbol, Region, Place}
@@ -33,7 +35,7 @@ use Rattle.aud_check_bodies.specs.Entries as entries
 use Rattle.aud_check_bodies.specs.Formals as f
 use Rattle.aud_check_bodies.specs.Regions as regions
 use Rattle.aud_check_bodies.specs.Tasks as tasks
-use Rattle.aud_check_bodies.proofs.Scoping.Names.{Known, when, IsCallable, IsTaskType, IsEntry, EntriesThere, MeaningScoped, VisibleScoped, SymbolsScoped, RegionsScoped, Fits, either, regions_more, regions_when, regions_scoped, regions_see, later, symbols_later, regions_later}
+use Rattle.aud_check_bodies.proofs.Scoping.Names.{Known, when, IsCallable, IsTaskType, IsEntry, EntriesThere, PartsThere, MeaningScoped, VisibleScoped, SymbolsScoped, RegionsScoped, Fits, either, regions_more, regions_when, regions_scoped, regions_see, later, symbols_later, parts_later, regions_later}
 use Rattle.aud_check_bodies.proofs.Scoping.Elaborations.{Elaborates, AllCreated, none_created, one_created}
 use Rattle.aud_check_bodies.proofs.Scoping.Expressions.{initial_scoped}
 
@@ -67,6 +69,7 @@ one_name name (Scalar o) level index = refl
 one_name name (Row a) level index = refl
 one_name name (Task number) level index = refl
 one_name name (TaskRow a) level index = refl
+one_name name (Protected number) level index = refl
 
 scalar_cell : (t : Option Subtype) → shown_cells (regions.shown_of t) ≡ 1
 scalar_cell None = refl
@@ -87,6 +90,7 @@ its_cells name (Scalar o) level index = omega (arith, scalar_cell o.subtype)
 its_cells name (Row a) level index = omega (arith, row_cells a.subtype (arrays.length_between a.low a.high))
 its_cells name (Task number) level index = omega arith
 its_cells name (TaskRow a) level index = omega arith
+its_cells name (Protected number) level index = omega arith
 
 -- of a region's frame
 abbrev pub elaborated : Region → Elaborated
@@ -101,6 +105,8 @@ pub record RegionScoped (known : Known) (outer : Scope) (full : Elaborated) (r :
   pub celled : cells_of (regions.shown_names r.symbols) ≡ r.cells
   -- the entries of the tasks that it declares are there
   pub entries : EntriesThere known r.entries
+  -- and what its objects declare may be used
+  pub parts : (c : Bool) (e : Elaborated) → r.cells ≤ e.cells → (c ≡ true → full.cells ≤ e.cells) → PartsThere (when c known) (outer ++ e ∷ []) r.parts
 
 pub empty_scoped : (known : Known) (outer : Scope) (full : Elaborated) (level : ℕ) → level ≡ length outer → RegionScoped known outer full (names.empty_region level)
 empty_scoped known outer full level h = record {
@@ -109,11 +115,12 @@ empty_scoped known outer full level h = record {
   named = refl;
   celled = refl;
   entries = tt;
+  parts = λ c e _ _. tt;
 }
 
 -- whatever task's body it is directly in
 pub owned_scoped : (known : Known) (outer : Scope) (full : Elaborated) (own : Option Variable) (r : Region) → RegionScoped known outer full r → RegionScoped known outer full (record r { own = own })
-owned_scoped known outer full own r h = record { level = h.level; symbols = h.symbols; named = h.named; celled = h.celled; entries = h.entries }
+owned_scoped known outer full own r h = record { level = h.level; symbols = h.symbols; named = h.named; celled = h.celled; entries = h.entries; parts = h.parts }
 
 -- all of it is elaborated
 pub all_elaborated : (known : Known) (outer : Scope) (full : Elaborated) (r : Region) → RegionScoped known outer full r → all_of_table (regions.shown_names r.symbols) ≡ elaborated r
@@ -126,7 +133,7 @@ pub both_none : {A : Type 0} (xs ys : List A) → xs ++ ys ≡ [] → (xs ≡ []
 both_none [] ys h = (refl, h)
 both_none (x ∷ xs) ys h = cc
 
-not_declared : (b : Bool) (f : Fault) → rules.unless (not b) f ≡ [] → b ≡ false
+pub not_declared : (b : Bool) (f : Fault) → rules.unless (not b) f ≡ [] → b ≡ false
 not_declared true f h = cc
 not_declared false f h = refl
 
@@ -144,6 +151,9 @@ module _ (known : Known) (outer : Scope) where
   new_scoped (TaskRow a) level index e h more =
       let here : cells_at level (outer ++ e ∷ []) ≡ e.cells = ap (λ x. x.cells) (get_or_push outer e none_yet level (sym h)) in
       omega (arith, here, more)
+  new_scoped (Protected number) level index e h more =
+      let here : cells_at level (outer ++ e ∷ []) ≡ e.cells = ap (λ x. x.cells) (get_or_push outer e none_yet level (sym h)) in
+      omega (arith, here, more)
 
 module _ (known : Known) (outer : Scope) (full : Elaborated) where
   pub symbol_scoped : (name : List ℕ) (kind : Kind) (r : Region) → RegionScoped known outer full r → RegionScoped known outer full (d.with_symbol name kind r)
@@ -155,6 +165,7 @@ module _ (known : Known) (outer : Scope) (full : Elaborated) where
         named = omega (arith, names_shown r.symbols (s ∷ []), one_name name kind r.level r.cells, h.named);
         celled = omega (arith, cells_shown r.symbols (s ∷ []), its_cells name kind r.level r.cells, h.celled);
         entries = h.entries;
+        parts = λ c e more enough. h.parts c e (omega (arith, more)) enough;
       }
 
   -- a name that is not declared yet
@@ -176,7 +187,7 @@ module _ (known : Known) (outer : Scope) (full : Elaborated) where
       (rest.0, omega (arith, rest.1), omega (arith, rest.2))
 
   -- an array or task is one name more with its cells
-  one_elaborated : (name : List ℕ) (kind : Kind) (r : Region) → in_innermost (declared_with (arrays.cells_of kind)) (outer ++ elaborated r ∷ []) ≡ outer ++ elaborated (d.with_symbol name kind r) ∷ []
+  pub one_elaborated : (name : List ℕ) (kind : Kind) (r : Region) → in_innermost (declared_with (arrays.cells_of kind)) (outer ++ elaborated r ∷ []) ≡ outer ++ elaborated (d.with_symbol name kind r) ∷ []
   one_elaborated name kind r =
       let one_more : suc r.names ≡ r.names + 1 = omega arith in
       in_last (declared_with (arrays.cells_of kind)) outer (elaborated r) ∙ ap (λ n. outer ++ record { names = n; cells = r.cells + arrays.cells_of kind } ∷ []) one_more
@@ -210,6 +221,7 @@ module _ (known : Known) (outer : Scope) (full : Elaborated) where
         named = omega (arith, names_shown x.region.symbols (s ∷ []), h.named);
         celled = omega (arith, cells_shown x.region.symbols (s ∷ []), h.celled);
         entries = h.entries;
+        parts = h.parts;
       }
 
 -- cells are only added
@@ -230,44 +242,56 @@ pub exceptions_more : (is : List Ident) (x : d.Exceptions) → length x.names �
 exceptions_more [] x = omega arith
 exceptions_more (i ∷ is) x = omega (arith, exception_more i x, exceptions_more is (d.with_exception i x))
 
--- Regions keep what waits for its body, but for tasks.
+-- Regions keep what waits for its body, but for tasks and objects.
 
-name_awaited : (i : Ident) (kind : Kind) (r : Region) → (d.with_name i kind r).awaited ≡ r.awaited
-name_awaited i kind r = either (λ (z : Region). z.awaited ≡ r.awaited) (names.is_declared i.name r.symbols) r (d.with_symbol i.name kind r) refl refl
+pub record Waiting : Type 0 where
+  pub tasks : List Awaited
+  pub objects : List AwaitedObject
+  -- what the objects declare
+  pub parts : List ObjectPart
 
-pub names_awaited : (is : List Ident) (kind : Kind) (r : Region) → (d.declared_names is kind r).awaited ≡ r.awaited
+abbrev pub no_waiting : Waiting
+no_waiting = record { tasks = []; objects = []; parts = [] }
+
+abbrev pub waits_in : Region → Waiting
+waits_in r = record { tasks = r.awaited; objects = r.objects; parts = r.parts }
+
+name_awaited : (i : Ident) (kind : Kind) (r : Region) → waits_in (d.with_name i kind r) ≡ waits_in r
+name_awaited i kind r = either (λ (z : Region). waits_in z ≡ waits_in r) (names.is_declared i.name r.symbols) r (d.with_symbol i.name kind r) refl refl
+
+pub names_awaited : (is : List Ident) (kind : Kind) (r : Region) → waits_in (d.declared_names is kind r) ≡ waits_in r
 names_awaited [] kind r = refl
 names_awaited (i ∷ is) kind r = names_awaited is kind (d.with_name i kind r) ∙ name_awaited i kind r
 
-exception_awaited : (i : Ident) (x : d.Exceptions) → (d.with_exception i x).region.awaited ≡ x.region.awaited
-exception_awaited i x = either (λ (z : d.Exceptions). z.region.awaited ≡ x.region.awaited) (names.is_declared i.name x.region.symbols) x (d.exception_symbol i.name x) refl refl
+exception_awaited : (i : Ident) (x : d.Exceptions) → waits_in (d.with_exception i x).region ≡ waits_in x.region
+exception_awaited i x = either (λ (z : d.Exceptions). waits_in z.region ≡ waits_in x.region) (names.is_declared i.name x.region.symbols) x (d.exception_symbol i.name x) refl refl
 
-pub exceptions_awaited : (is : List Ident) (x : d.Exceptions) → (d.declared_exceptions is x).region.awaited ≡ x.region.awaited
+pub exceptions_awaited : (is : List Ident) (x : d.Exceptions) → waits_in (d.declared_exceptions is x).region ≡ waits_in x.region
 exceptions_awaited [] x = refl
 exceptions_awaited (i ∷ is) x = exceptions_awaited is (d.with_exception i x) ∙ exception_awaited i x
 
-pub procedure_awaited : (i : Ident) (unit : ℕ) (r : Region) → (d.with_procedure i unit r).awaited ≡ r.awaited
-procedure_awaited i unit r = either (λ (z : Region). z.awaited ≡ r.awaited) (names.is_declared i.name r.symbols) r (record r { symbols = r.symbols ++ (i.name, Procedure unit) ∷ [] }) refl refl
+pub procedure_awaited : (i : Ident) (unit : ℕ) (r : Region) → waits_in (d.with_procedure i unit r) ≡ waits_in r
+procedure_awaited i unit r = either (λ (z : Region). waits_in z ≡ waits_in r) (names.is_declared i.name r.symbols) r (record r { symbols = r.symbols ++ (i.name, Procedure unit) ∷ [] }) refl refl
 
-pub formals_awaited : (own : Option Ident) (fs : List plain.Formal) (r : Region) (around : List Region) → (f.checked_formals own fs r around).region.awaited ≡ r.awaited
+pub formals_awaited : (own : Option Ident) (fs : List plain.Formal) (r : Region) (around : List Region) → waits_in (f.checked_formals own fs r around).region ≡ waits_in r
 formals_awaited own [] r around = refl
 formals_awaited own (plain.formal first others mode mark ∷ fs) r around =
     let is : List Ident = first ∷ others in
     let kind : Kind = f.formal_kind mode (d.subtype_meant (f.mark_meant own is mark r around)) in
     formals_awaited own fs (d.declared_names is kind r) around ∙ names_awaited is kind r
 
-objects_as_awaited : (m : Option ℕ) (is : List Ident) (at : Pos) (mark : Ident) (initial : plain.MaybeExpression) (is_constant : Bool) (n : Place) → (names.innermost (d.objects_as m is at mark initial is_constant n).made.place).awaited ≡ (names.innermost n).awaited
+objects_as_awaited : (m : Option ℕ) (is : List Ident) (at : Pos) (mark : Ident) (initial : plain.MaybeExpression) (is_constant : Bool) (n : Place) → waits_in (names.innermost (d.objects_as m is at mark initial is_constant n).made.place) ≡ waits_in (names.innermost n)
 objects_as_awaited None is at mark initial is_constant n = names_awaited is (d.scalar (d.subtype_meant (d.marked mark is n)) is_constant) (names.innermost n)
 objects_as_awaited (Some number) is at mark initial is_constant n = names_awaited is (Task number) (names.innermost n)
 
-pub objects_awaited : (is : List Ident) (at : Pos) (mark : Ident) (initial : plain.MaybeExpression) (is_constant : Bool) (n : Place) → (names.innermost (d.checked_objects is at mark initial is_constant n).made.place).awaited ≡ (names.innermost n).awaited
+pub objects_awaited : (is : List Ident) (at : Pos) (mark : Ident) (initial : plain.MaybeExpression) (is_constant : Bool) (n : Place) → waits_in (names.innermost (d.checked_objects is at mark initial is_constant n).made.place) ≡ waits_in (names.innermost n)
 objects_awaited is at mark initial is_constant n = objects_as_awaited (d.tasks_meant (d.marked mark is n) initial is_constant) is at mark initial is_constant n
 
-arrays_as_awaited : (m : Option ℕ) (is : List Ident) (at : Pos) (low high : Bound) (mark : Ident) (n : Place) → (names.innermost (d.arrays_as m is at low high mark n).made.place).awaited ≡ (names.innermost n).awaited
+arrays_as_awaited : (m : Option ℕ) (is : List Ident) (at : Pos) (low high : Bound) (mark : Ident) (n : Place) → waits_in (names.innermost (d.arrays_as m is at low high mark n).made.place) ≡ waits_in (names.innermost n)
 arrays_as_awaited None is at low high mark n = names_awaited is (d.arrays_kind low high (d.subtype_meant (d.marked mark is n))) (names.innermost n)
 arrays_as_awaited (Some number) is at low high mark n = names_awaited is (d.tasks_kind low high number) (names.innermost n)
 
-pub arrays_awaited : (is : List Ident) (at : Pos) (low high : Bound) (mark : Ident) (n : Place) → (names.innermost (d.checked_arrays is at low high mark n).made.place).awaited ≡ (names.innermost n).awaited
+pub arrays_awaited : (is : List Ident) (at : Pos) (low high : Bound) (mark : Ident) (n : Place) → waits_in (names.innermost (d.checked_arrays is at low high mark n).made.place) ≡ waits_in (names.innermost n)
 arrays_awaited is at low high mark n = arrays_as_awaited (d.task_type_meant (d.marked mark is n)) is at low high mark n
 
 -- Declarations only add cells.
@@ -329,7 +353,7 @@ marked_tasks known scope m (plain.an_expression x) is_constant number p h = cc
 
 module _ (known : Known) (outer : Scope) (full : Elaborated) where
   pub body_regions : (c : Bool) (n : Place) (e : Elaborated) → InBody known outer full n → (names.innermost n).cells ≤ e.cells → (c ≡ true → full.cells ≤ e.cells) → RegionsScoped (when c known) (outer ++ e ∷ []) n.regions
-  body_regions c n e h more enough = regions_scoped (when c known) (outer ++ e ∷ []) n.regions (h.innermost.symbols c e more enough) h.innermost.entries (h.others c e more)
+  body_regions c n e h more enough = regions_scoped (when c known) (outer ++ e ∷ []) n.regions (h.innermost.symbols c e more enough) h.innermost.entries (h.innermost.parts c e more enough) (h.others c e more)
 
   -- within its declarations no unit is entered
   partly : (n : Place) → InBody known outer full n → RegionsScoped (when false known) (outer ++ elaborated (names.innermost n) ∷ []) n.regions
@@ -351,7 +375,7 @@ module _ (known : Known) (outer : Scope) (full : Elaborated) where
       × AllCreated known (outer ++ full ∷ []) x.elaborations
 
   -- the regions around stay what they were
-  others_stay : (n : Place) (r : Region) → (names.innermost n).cells ≤ r.cells → InBody known outer full n → RegionScoped known outer full r → InBody known outer full (names.in_region r n)
+  pub others_stay : (n : Place) (r : Region) → (names.innermost n).cells ≤ r.cells → InBody known outer full n → RegionScoped known outer full r → InBody known outer full (names.in_region r n)
   others_stay n r more h i = record { innermost = i; others = λ c e enough. h.others c e (omega (arith, more, enough)) }
 
   exceptions_declared : (is : List Ident) (x : d.Exceptions) → d.exceptions_twice is x ≡ [] → length (d.declared_exceptions is x).names ≤ length known.plan.exceptions → RegionScoped known outer full x.region
@@ -461,6 +485,7 @@ module _ (known : Known) (outer : Scope) (full : Elaborated) where
         named = omega (arith, names_shown r.symbols (s ∷ []), h.named);
         celled = omega (arith, cells_shown r.symbols (s ∷ []), h.celled);
         entries = h.entries;
+        parts = h.parts;
       })
 
   -- a task type has none either, and a single task has one
@@ -474,6 +499,7 @@ module _ (known : Known) (outer : Scope) (full : Elaborated) where
         named = omega (arith, names_shown r.symbols (s ∷ []), h.named);
         celled = omega (arith, cells_shown r.symbols (s ∷ []), h.celled);
         entries = h.entries;
+        parts = h.parts;
       }
 
   task_symbol_scoped : (is_type : Bool) (name : List ℕ) (number : ℕ) (r : Region) → ((c : Bool) (e : Elaborated) → (c ≡ true → full.cells ≤ e.cells) → IsTaskType (when c known) (outer ++ e ∷ []) number) → RegionScoped known outer full r → RegionScoped known outer full (tasks.with_task_symbol is_type name number r)
@@ -481,14 +507,14 @@ module _ (known : Known) (outer : Scope) (full : Elaborated) where
   task_symbol_scoped false name number r begins h = symbol_scoped known outer full name (Task number) r h
 
   awaiting_scoped : (i : Ident) (number unit : ℕ) (r : Region) → RegionScoped known outer full r → RegionScoped known outer full (tasks.awaiting i number unit r)
-  awaiting_scoped i number unit r h = record { level = h.level; symbols = h.symbols; named = h.named; celled = h.celled; entries = h.entries }
+  awaiting_scoped i number unit r h = record { level = h.level; symbols = h.symbols; named = h.named; celled = h.celled; entries = h.entries; parts = h.parts }
 
   both_there : (xs ys : List EntryName) → EntriesThere known xs → EntriesThere known ys → EntriesThere known (xs ++ ys)
   both_there [] ys h i = i
   both_there (x ∷ xs) ys h i = (h.0, both_there xs ys h.1 i)
 
   naming_scoped : (xs : List EntryName) (r : Region) → EntriesThere known xs → RegionScoped known outer full r → RegionScoped known outer full (entries.naming xs r)
-  naming_scoped xs r i h = record { level = h.level; symbols = h.symbols; named = h.named; celled = h.celled; entries = both_there r.entries xs h.entries i }
+  naming_scoped xs r i h = record { level = h.level; symbols = h.symbols; named = h.named; celled = h.celled; entries = both_there r.entries xs h.entries i; parts = h.parts }
 
   created_elaborates : (is_type : Bool) (i : Ident) (at : Pos) (number unit : ℕ) (r : Region) → Elaborates known (outer ++ elaborated r ∷ []) (tasks.created_by is_type i at number) (outer ++ elaborated (tasks.awaiting i number unit (tasks.with_task_symbol is_type i.name number r)) ∷ [])
   created_elaborates true i at number unit r = refl
@@ -566,6 +592,7 @@ module _ (known : Known) (outer : Scope) (full : Elaborated) where
         named = omega (arith, names_shown r.symbols (s ∷ []), h.named);
         celled = omega (arith, cells_shown r.symbols (s ∷ []), h.celled);
         entries = h.entries;
+        parts = h.parts;
       }
 
   entry_scoped : (name : List ℕ) (number : ℕ) (r : Region) → IsEntry known number → RegionScoped known outer full r × (r.cells ≡ 1) × (r.names ≡ 1) → RegionScoped known outer full (names.with_entry name number r) × ((names.with_entry name number r).cells ≡ 1) × ((names.with_entry name number r).names ≡ 1)
@@ -584,6 +611,7 @@ module _ (known : Known) (outer : Scope) (full : Elaborated) where
     named = refl;
     celled = refl;
     entries = tt;
+    parts = λ c e _ _. tt;
   }
 
   pub in_task : (name : List ℕ) (number : ℕ) (n : Place) → (names.innermost n).level + 1 ≡ length outer → EntriesThere known (names.innermost n).entries → ((c : Bool) → RegionsScoped (when c known) outer n.regions) → InBody known outer full (names.task_place name number n)
@@ -591,7 +619,7 @@ module _ (known : Known) (outer : Scope) (full : Elaborated) where
       let all = entries_scoped number (names.innermost n).entries (names.own_region ((names.innermost n).level + 1) number) there (own_scoped ((names.innermost n).level + 1) number level, refl, refl) in
       record {
         innermost = all.0;
-        others = λ c e more. ((All-from_recursion (λ x. MeaningScoped (when c known) (outer ++ e ∷ []) x.1) (names.running name ((names.innermost n).level + 1) number).symbols (own_cell ((names.innermost n).level + 1) e level (omega (arith, all.1, more)), tt), tt), regions_more (when c known) outer e n.regions (around c));
+        others = λ c e more. ((All-from_recursion (λ x. MeaningScoped (when c known) (outer ++ e ∷ []) x.1) (names.running name ((names.innermost n).level + 1) number).symbols (own_cell ((names.innermost n).level + 1) e level (omega (arith, all.1, more)), tt), tt, tt), regions_more (when c known) outer e n.regions (around c));
       }
 
   -- its own number is all that is elaborated in its frame at first
@@ -603,27 +631,28 @@ module _ (known : Known) (outer : Scope) (full : Elaborated) where
 
 -- in a task's body nothing waits at first
 
-entry_awaits : (name : List ℕ) (number : ℕ) (r : Region) → (names.with_entry name number r).awaited ≡ r.awaited
-entry_awaits name number r = either (λ (z : Region). z.awaited ≡ r.awaited) (names.is_declared name r.symbols) r (record r { symbols = r.symbols ++ (name, Entry (record { number = number; owner = Single (names.own_cell r.level) })) ∷ [] }) refl refl
+entry_awaits : (name : List ℕ) (number : ℕ) (r : Region) → waits_in (names.with_entry name number r) ≡ waits_in r
+entry_awaits name number r = either (λ (z : Region). waits_in z ≡ waits_in r) (names.is_declared name r.symbols) r (record r { symbols = r.symbols ++ (name, Entry (record { number = number; owner = Single (names.own_cell r.level) })) ∷ [] }) refl refl
 
-entries_await : (number : ℕ) (xs : List EntryName) (r : Region) → (names.with_entries number xs r).awaited ≡ r.awaited
+entries_await : (number : ℕ) (xs : List EntryName) (r : Region) → waits_in (names.with_entries number xs r) ≡ waits_in r
 entries_await number [] r = refl
 entries_await number (x ∷ xs) r =
     let one : Region = if nat_eq number x.task_type then names.with_entry x.name x.number r else r in
-    entries_await number xs one ∙ either (λ (z : Region). z.awaited ≡ r.awaited) (nat_eq number x.task_type) (names.with_entry x.name x.number r) r (entry_awaits x.name x.number r) refl
+    entries_await number xs one ∙ either (λ (z : Region). waits_in z ≡ waits_in r) (nat_eq number x.task_type) (names.with_entry x.name x.number r) r (entry_awaits x.name x.number r) refl
 
-pub task_begins : (name : List ℕ) (number : ℕ) (n : Place) → (names.innermost (names.task_place name number n)).awaited ≡ []
+pub task_begins : (name : List ℕ) (number : ℕ) (n : Place) → waits_in (names.innermost (names.task_place name number n)) ≡ no_waiting
 task_begins name number n = entries_await number (names.innermost n).entries (names.own_region ((names.innermost n).level + 1) number)
 
 -- what waits behind the declaration of a task
-symbol_waits : (is_type : Bool) (name : List ℕ) (number : ℕ) (r : Region) → (tasks.with_task_symbol is_type name number r).awaited ≡ r.awaited
+symbol_waits : (is_type : Bool) (name : List ℕ) (number : ℕ) (r : Region) → waits_in (tasks.with_task_symbol is_type name number r) ≡ waits_in r
 symbol_waits true name number r = refl
 symbol_waits false name number r = refl
 
-pub task_waits : (is_type : Bool) (i : Ident) (number unit : ℕ) (r : Region) → rules.declared_once i.name i.at r.symbols ≡ [] → (tasks.with_task is_type i number unit r).awaited ≡ r.awaited ++ (record { name = i.name; task_type = number; unit = unit; at = i.at }) ∷ []
+pub task_waits : (is_type : Bool) (i : Ident) (number unit : ℕ) (r : Region) → rules.declared_once i.name i.at r.symbols ≡ []
+    → waits_in (tasks.with_task is_type i number unit r) ≡ record (waits_in r) { tasks = r.awaited ++ (record { name = i.name; task_type = number; unit = unit; at = i.at }) ∷ [] }
 task_waits is_type i number unit r q =
     let a : Awaited = record { name = i.name; task_type = number; unit = unit; at = i.at } in
-    ap (λ (z : Region). z.awaited) (new_task is_type i number unit r q) ∙ ap (λ l. l ++ a ∷ []) (symbol_waits is_type i.name number r)
+    ap waits_in (new_task is_type i number unit r q) ∙ ap (λ (w : Waiting). record w { tasks = w.tasks ++ a ∷ [] }) (symbol_waits is_type i.name number r)
 
 -- a procedure's name changes nothing of its region's frame
 pub procedure_elaborates : (i : Ident) (unit : ℕ) (r : Region) → elaborated (d.with_procedure i unit r) ≡ elaborated r
@@ -638,6 +667,7 @@ body_later known outer full more n h = record {
     named = h.innermost.named;
     celled = h.innermost.celled;
     entries = h.innermost.entries;
+    parts = λ c e enough all. parts_later (when c known) (outer ++ e ∷ []) more (names.innermost n).parts (h.innermost.parts c e enough all);
   };
   others = λ c e enough. regions_later (when c known) (outer ++ e ∷ []) more (names.others_of n.regions) (h.others c e enough);
 }
@@ -648,5 +678,5 @@ in_main known full name main = record {
   innermost = empty_scoped known [] full 0 refl;
   others = λ c e more.
       let all = All-from_recursion (λ x. MeaningScoped (when c known) (e ∷ []) x.1) in
-      ((all ((name, Procedure 0) ∷ []) (main c e, tt), tt), ((all names.predefined (tt, (tt, (tt, (tt, (tt, (tt, (tt, (tt, (tt, (tt, (tt, (tt, (tt, tt))))))))))))), tt), tt));
+      ((all ((name, Procedure 0) ∷ []) (main c e, tt), tt, tt), ((all names.predefined (tt, (tt, (tt, (tt, (tt, (tt, (tt, (tt, (tt, (tt, (tt, (tt, (tt, tt))))))))))))), tt, tt), tt));
 }

@@ -1,5 +1,5 @@
 -- How the units of a program are entered, in the order of their numbers: with what is elaborated where they are declared.
-use Rattle.std.proofs.Common.{◌≡◌, ◌+◌, ◌<◌, ◌≤◌, ℕ, suc, Bool, true, false, Option, Some, None, List, [], ◌∷◌, ◌++◌, length, slice_index_or, arith, ◌∙◌, ap}
+use Rattle.std.proofs.Common.{◌≡◌, ◌+◌, ◌<◌, ◌≤◌, ℕ, suc, Bool, true, false, Option, Some, None, List, [], ◌∷◌, ◌++◌, length, slice_index_or, arith, refl, ◌∙◌, ap}
 use Rattle.std.specs.Prelude.{slice_set}
 use Rattle.std.proofs.lemmas.List.{length_push, length-append, length-set, get_or_append_left, get_or-append-add}
 use Rattle.aud_text.specs.declared.place.Pos.{Pos}
@@ -10,11 +10,20 @@ use Rattle.aud_typed.specs.Tree as tree
 use Rattle.aud_typed.specs.Why.Scoped.{Scope, Entry, no_entry, entry_of, all_of_table}
 use Rattle.aud_names.specs.declared.names.NamedParameter.{NamedParameter}
 use Rattle.aud_names.specs.declared.awaited.Awaited.{Awaited}
+use Rattle.aud_names.specs.declared.awaited.AwaitedObject.{AwaitedObject}
+use Rattle.aud_names.specs.declared.awaited.AwaitedPart.{AwaitedPart}
+use Rattle.aud_names.specs.declared.parts.PartKind.{PartKind}
+use Rattle.aud_names.specs.declared.parts.PartKind.TheVariants as part
+use Rattle.aud_names.specs.Objects.{awaited_parts}
 use Rattle.aud_names.specs.Names as names
 use Rattle.aud_names.specs.Names.{Region, Place}
 use Rattle.aud_check_bodies.specs.Tables.{Tables, Outcome, no_body, with_region, region_kept, unit_kept, with_unit}
 use Rattle.aud_check_bodies.specs.Accepts as accepts
 use Rattle.aud_check_bodies.specs.Entries as declared
+use Rattle.aud_check_bodies.specs.Objects as objects
+use Rattle.aud_check_bodies.specs.Objects.{ObjectDeclared}
+use Rattle.aud_check_bodies.specs.Operations as operations
+use Rattle.aud_check_bodies.specs.Operations.{Head, of_entry, of_function, BodyPlaces}
 use Rattle.aud_check_bodies.specs.Tasks as tasks
 use Rattle.aud_check_bodies.specs.Declarations as d
 use Rattle.aud_check_bodies.specs.Formals.{Formals}
@@ -54,6 +63,53 @@ of_body (Some a) scope = []
 -- within what an accept does, in the region of its formals
 abbrev pub accept_scope : Region → Scope → Scope
 accept_scope r scope = scope ++ all_of_table (regions.shown_names r.symbols) ∷ []
+
+-- of an object: with these frames, of which the last is its own
+
+abbrev pub of_operation : List NamedParameter → Scope → Entry
+of_operation profile frames = record { formals = length profile; outer = frames }
+
+-- what calls see of an operation or entry
+abbrev pub operation_profile : plain.Operation → List Region → ObjectDeclared → List NamedParameter
+operation_profile (plain.entry_operation e) outer x = (objects.operation_formals e.name e.formals x.own (objects.further_out x outer)).profile
+operation_profile (plain.procedure_operation i fs) outer x = (objects.operation_formals i fs x.own (objects.further_out x outer)).profile
+operation_profile (plain.function_operation i fs mark) outer x = (objects.function_signature i fs mark x.own (objects.further_out x outer)).0
+
+abbrev pub in_operations : ℕ → List plain.Operation → List Region → ObjectDeclared → Scope → List Entry
+in_operations object [] outer x frames = []
+in_operations object (o ∷ os) outer x frames = of_operation (operation_profile o outer x) frames ∷ in_operations object os outer (objects.one_operation object false o outer x) frames
+
+abbrev pub in_items : ℕ → List plain.PrivateItem → List Region → ObjectDeclared → Scope → List Entry
+in_items object [] outer x frames = []
+in_items object (plain.private_operation o ∷ os) outer x frames = of_operation (operation_profile o outer x) frames ∷ in_items object os outer (objects.one_operation object true o outer x) frames
+in_items object (plain.components first others mark initial ∷ os) outer x frames = in_items object os outer (objects.declared_components object (first ∷ others) mark initial outer x) frames
+
+-- its own frame has all that it declares
+abbrev pub object_scope : List ℕ → List plain.Operation → Option (List plain.PrivateItem) → Place → Tables → Scope → Scope
+object_scope name operations hidden n t scope = scope ++ elaborated (objects.parts_declared name operations hidden n t).own ∷ []
+
+abbrev pub in_object : List ℕ → List plain.Operation → Option (List plain.PrivateItem) → Place → Tables → Scope → List Entry
+in_object name operations hidden n t frames =
+    let none = objects.no_parts name n t in
+    in_operations (length t.objects) operations n.regions none frames
+    ++ in_items (length t.objects) (objects.hidden_items hidden) n.regions (objects.declared_operations (length t.objects) operations n.regions none) frames
+
+-- a body of no operation that waits for it is an operation of its own
+abbrev pub of_found : Option PartKind → Scope → List Entry
+of_found None frames = of_operation [] frames ∷ []
+of_found (Some k) frames = []
+
+-- of a body, which is entered in its own place
+abbrev pub of_body_of : Head → Ident → List plain.Formal → (Place → Tables → List Entry) → BodyPlaces → List AwaitedPart → Tables → Scope → List Entry
+of_body_of head i fs within o awaited t frames =
+    let here = operations.operation_place head o in
+    let region = (operations.shape_of head i fs here).region in
+    let found = operations.part_awaited head i o awaited in
+    of_found found frames ++ within (names.place_in region here.regions) (operations.operation_tables head found region here t)
+
+-- the frames of the bodies of an object
+abbrev pub bodies_scope : BodyPlaces → Scope → Scope
+bodies_scope o scope = scope ++ elaborated (names.innermost o.inside) ∷ []
 
 -- of the units that constructs declare, in this scope; of declarations what is elaborated behind all of them
 abbrev mutual
@@ -128,10 +184,32 @@ abbrev mutual
       let inner : Place = names.task_place i.name (tasks.body_task found t) (tasks.place_behind i n) in
       let kept : Tables = tasks.body_tables found t in
       of_body found scope ++ of_entered (λ own. in_declarations ds inner (region_kept kept) own) (λ m u within. in_body b task_around m u within) (s.checked_declarations ds inner (region_kept kept)) kept scope
+  in_declaration (plain.protected at i operations hidden last) n t scope = in_object i.name operations hidden n t (object_scope i.name operations hidden n t scope)
+  in_declaration (plain.protected_body at i inner last) n t scope =
+      let here : Place = objects.object_behind i n in
+      let object = objects.body_object (objects.object_awaited i n) t in
+      let o : BodyPlaces = operations.body_places i.name object here in
+      in_bodies inner o (awaited_parts object (names.innermost here).parts) (objects.object_tables (objects.object_awaited i n) i t) (bodies_scope o scope)
   in_declaration _ n t scope = []
+
+  pub in_bodies : plain.OperationBodies → BodyPlaces → List AwaitedPart → Tables → Scope → List Entry
+  in_bodies plain.no_bodies o awaited t frames = []
+  in_bodies (plain.more_bodies x xs) o awaited t frames = in_operation x o awaited t frames ++ in_bodies xs o (s.checked_operation x o awaited t).made (s.checked_operation x o awaited t).tables frames
+
+  pub in_operation : plain.OperationBody → BodyPlaces → List AwaitedPart → Tables → Scope → List Entry
+  in_operation (plain.entry_body at i fs barrier ds b) o awaited t frames =
+      of_body_of (of_entry barrier) i fs (λ inner kept. of_entered (λ own. in_declarations ds inner (region_kept kept) own) (λ m u within. in_body b (s.operation_around (of_entry barrier) i fs o.inside) m u within) (s.checked_declarations ds inner (region_kept kept)) kept frames) o awaited t frames
+  in_operation (plain.procedure_body at i fs ds b) o awaited t frames =
+      of_body_of operations.of_procedure i fs (λ inner kept. of_entered (λ own. in_declarations ds inner (region_kept kept) own) (λ m u within. in_body b (s.operation_around operations.of_procedure i fs o.inside) m u within) (s.checked_declarations ds inner (region_kept kept)) kept frames) o awaited t frames
+  in_operation (plain.function_body at i fs mark ds b) o awaited t frames =
+      of_body_of (of_function mark) i fs (λ inner kept. of_entered (λ own. in_declarations ds inner (region_kept kept) own) (λ m u within. in_body b (s.operation_around (of_function mark) i fs o.in_function) m u within) (s.checked_declarations ds inner (region_kept kept)) kept frames) o awaited t frames
 
 abbrev pub in_entered : plain.Declarations → plain.Body → Around → Place → Tables → Scope → List Entry
 in_entered ds b around n t outer = of_entered (λ inner. in_declarations ds n (region_kept t) inner) (λ m u inner. in_body b around m u inner) (s.checked_declarations ds n (region_kept t)) t outer
+
+-- the same of the body of an operation by what it is of
+abbrev pub in_operation_of : Head → Ident → List plain.Formal → plain.Declarations → plain.Body → BodyPlaces → List AwaitedPart → Tables → Scope → List Entry
+in_operation_of head i fs ds b o awaited t frames = of_body_of head i fs (λ inner kept. in_entered ds b (s.operation_around head i fs (operations.operation_place head o)) inner kept frames) o awaited t frames
 
 -- As many as are declared. That stands under a name of its own for each construct, so that the recursion below looks at nothing else.
 
@@ -433,13 +511,101 @@ requeue_counted : (at : Pos) (x : plain.Name) (with_abort : Bool) (around : Arou
 unfolding StatementCounted
 requeue_counted at x with_abort around n t scope = none_counted (length t.units)
 
+pub operation_counted : (object : ℕ) (is_private : Bool) (x : plain.Operation) (outer : List Region) (o : ObjectDeclared) → length (objects.one_operation object is_private x outer o).tables.units ≡ length o.tables.units + 1
+operation_counted object is_private (plain.entry_operation e) outer o = omega (arith, length_push o.tables.units no_body)
+operation_counted object is_private (plain.procedure_operation i fs) outer o = omega (arith, length_push o.tables.units no_body)
+operation_counted object is_private (plain.function_operation i fs mark) outer o = omega (arith, length_push o.tables.units no_body)
+
+pub operations_counted : (object : ℕ) (xs : List plain.Operation) (outer : List Region) (o : ObjectDeclared) (frames : Scope) → length (objects.declared_operations object xs outer o).tables.units ≡ length o.tables.units + length (in_operations object xs outer o frames)
+operations_counted object [] outer o frames = omega arith
+operations_counted object (x ∷ xs) outer o frames = omega (arith, operation_counted object false x outer o, operations_counted object xs outer (objects.one_operation object false x outer o) frames)
+
+pub items_counted : (object : ℕ) (xs : List plain.PrivateItem) (outer : List Region) (o : ObjectDeclared) (frames : Scope) → length (objects.declared_items object xs outer o).tables.units ≡ length o.tables.units + length (in_items object xs outer o frames)
+items_counted object [] outer o frames = omega arith
+items_counted object (plain.private_operation x ∷ xs) outer o frames = omega (arith, operation_counted object true x outer o, items_counted object xs outer (objects.one_operation object true x outer o) frames)
+items_counted object (plain.components first others mark initial ∷ xs) outer o frames = items_counted object xs outer (objects.declared_components object (first ∷ others) mark initial outer o) frames
+
+pub object_is_counted : (name : List ℕ) (operations : List plain.Operation) (hidden : Option (List plain.PrivateItem)) (n : Place) (t : Tables) (frames : Scope) → length (objects.parts_declared name operations hidden n t).tables.units ≡ length t.units + length (in_object name operations hidden n t frames)
+object_is_counted name operations hidden n t frames =
+    let none = objects.no_parts name n t in
+    let first = objects.declared_operations (length t.objects) operations n.regions none in
+    both_counted (in_operations (length t.objects) operations n.regions none frames) (in_items (length t.objects) (objects.hidden_items hidden) n.regions first frames) (length t.units) (length first.tables.units) (length (objects.parts_declared name operations hidden n t).tables.units)
+    (operations_counted (length t.objects) operations n.regions none frames) (items_counted (length t.objects) (objects.hidden_items hidden) n.regions first frames)
+
 protected_counted : (at : Pos) (i : Ident) (operations : List plain.Operation) (hidden : Option (List plain.PrivateItem)) (last : Option Ident) (n : Place) (t : Tables) (outer : Scope) → DeclarationCounted (plain.protected at i operations hidden last) n t outer
 unfolding DeclarationCounted
-protected_counted at i operations hidden last n t outer = none_counted (length t.units)
+protected_counted at i operations hidden last n t outer = object_is_counted i.name operations hidden n t (object_scope i.name operations hidden n t outer)
 
-protected_body_counted : (at : Pos) (i : Ident) (inner : plain.OperationBodies) (last : Option Ident) (n : Place) (t : Tables) (outer : Scope) → DeclarationCounted (plain.protected_body at i inner last) n t outer
-unfolding DeclarationCounted
-protected_body_counted at i inner last n t outer = none_counted (length t.units)
+-- bodies of operations
+
+BodiesCounted : plain.OperationBodies → BodyPlaces → List AwaitedPart → Tables → Scope → Type 0
+BodiesCounted x o awaited t frames = length (s.checked_bodies x o awaited t).tables.units ≡ length t.units + length (in_bodies x o awaited t frames)
+
+OperationCounted : plain.OperationBody → BodyPlaces → List AwaitedPart → Tables → Scope → Type 0
+OperationCounted x o awaited t frames = length (s.checked_operation x o awaited t).tables.units ≡ length t.units + length (in_operation x o awaited t frames)
+
+pub barrier_kept_units : (found : Option PartKind) (b : Option tree.BooleanExpression) (t : Tables) → (operations.barrier_kept found b t).units ≡ t.units
+barrier_kept_units (Some (part.Entry number unit)) (Some b) t = refl
+barrier_kept_units (Some (part.Entry number unit)) None t = refl
+barrier_kept_units (Some (part.Operation unit subprogram)) b t = refl
+barrier_kept_units (Some (part.Component x)) b t = refl
+barrier_kept_units None b t = refl
+
+found_counted : (found : Option PartKind) (b : Option tree.BooleanExpression) (t : Tables) (frames : Scope) → length (operations.barrier_kept found b (operations.operation_kept found t)).units ≡ length t.units + length (of_found found frames)
+found_counted None b t frames = omega (arith, ap length (barrier_kept_units None b (operations.operation_kept None t)), length_push t.units no_body)
+found_counted (Some k) b t frames = omega (arith, ap length (barrier_kept_units (Some k) b t))
+
+operation_of_counted : (head : Head) (at : Pos) (i : Ident) (fs : List plain.Formal) (ds : plain.Declarations) (b : plain.Body) (o : BodyPlaces) (awaited : List AwaitedPart) (t : Tables) (frames : Scope)
+    → ((m : Place) (u : Tables) (scope : Scope) → DeclarationsCounted ds m u scope) → ((within : Around) (m : Place) (u : Tables) (inner : Scope) → BodyCounted b within m u inner) → length (s.checked_operation_of head at i fs ds b o awaited t).tables.units ≡ length t.units + length (in_operation_of head i fs ds b o awaited t frames)
+operation_of_counted head at i fs ds b o awaited t frames f g =
+    let here : Place = operations.operation_place head o in
+    let region = (operations.shape_of head i fs here).region in
+    let found = operations.part_awaited head i o awaited in
+    let inner : Place = names.place_in region here.regions in
+    let kept : Tables = operations.operation_tables head found region here t in
+    let around : Around = s.operation_around head i fs here in
+    let own = s.checked_operation_unit head at i fs ds b here inner kept in
+    let within = in_entered ds b around inner kept frames in
+    let count = entering_counted false ds b around inner kept frames (f inner (region_kept kept)) (g around) in
+    both_counted (of_found found frames) within (length t.units) (length kept.units) (length (with_unit (operations.operation_unit found t) own.made own.tables).units) (found_counted found (operations.barrier_of head region here) t frames) (length-set own.tables.units (operations.operation_unit found t) own.made ∙ count)
+
+entry_body_counted : (at : Pos) (i : Ident) (fs : List plain.Formal) (barrier : plain.Expression) (ds : plain.Declarations) (b : plain.Body) (o : BodyPlaces) (awaited : List AwaitedPart) (t : Tables) (frames : Scope)
+    → ((m : Place) (u : Tables) (scope : Scope) → DeclarationsCounted ds m u scope) → ((within : Around) (m : Place) (u : Tables) (inner : Scope) → BodyCounted b within m u inner) → OperationCounted (plain.entry_body at i fs barrier ds b) o awaited t frames
+unfolding OperationCounted
+entry_body_counted at i fs barrier ds b o awaited t frames f g = operation_of_counted (of_entry barrier) at i fs ds b o awaited t frames f g
+
+procedure_body_counted : (at : Pos) (i : Ident) (fs : List plain.Formal) (ds : plain.Declarations) (b : plain.Body) (o : BodyPlaces) (awaited : List AwaitedPart) (t : Tables) (frames : Scope)
+    → ((m : Place) (u : Tables) (scope : Scope) → DeclarationsCounted ds m u scope) → ((within : Around) (m : Place) (u : Tables) (inner : Scope) → BodyCounted b within m u inner) → OperationCounted (plain.procedure_body at i fs ds b) o awaited t frames
+unfolding OperationCounted
+procedure_body_counted at i fs ds b o awaited t frames f g = operation_of_counted operations.of_procedure at i fs ds b o awaited t frames f g
+
+function_body_counted : (at : Pos) (i : Ident) (fs : List plain.Formal) (mark : Ident) (ds : plain.Declarations) (b : plain.Body) (o : BodyPlaces) (awaited : List AwaitedPart) (t : Tables) (frames : Scope)
+    → ((m : Place) (u : Tables) (scope : Scope) → DeclarationsCounted ds m u scope) → ((within : Around) (m : Place) (u : Tables) (inner : Scope) → BodyCounted b within m u inner) → OperationCounted (plain.function_body at i fs mark ds b) o awaited t frames
+unfolding OperationCounted
+function_body_counted at i fs mark ds b o awaited t frames f g = operation_of_counted (of_function mark) at i fs ds b o awaited t frames f g
+
+no_bodies_counted : (o : BodyPlaces) (awaited : List AwaitedPart) (t : Tables) (frames : Scope) → BodiesCounted plain.no_bodies o awaited t frames
+unfolding BodiesCounted
+no_bodies_counted o awaited t frames = none_counted (length t.units)
+
+more_bodies_counted : (x : plain.OperationBody) (xs : plain.OperationBodies) (o : BodyPlaces) (awaited : List AwaitedPart) (t : Tables) (frames : Scope) → OperationCounted x o awaited t frames → ((still : List AwaitedPart) (u : Tables) → BodiesCounted xs o still u frames) → BodiesCounted (plain.more_bodies x xs) o awaited t frames
+unfolding OperationCounted BodiesCounted
+more_bodies_counted x xs o awaited t frames f g =
+    let first = s.checked_operation x o awaited t in
+    both_counted (in_operation x o awaited t frames) (in_bodies xs o first.made first.tables frames) (length t.units) (length first.tables.units) (length (s.checked_bodies xs o first.made first.tables).tables.units) f (g first.made first.tables)
+
+body_object_units : (found : Option AwaitedObject) (i : Ident) (t : Tables) → (objects.object_tables found i t).units ≡ t.units
+body_object_units None i t = refl
+body_object_units (Some o) i t = refl
+
+protected_body_counted : (at : Pos) (i : Ident) (inner : plain.OperationBodies) (last : Option Ident) (n : Place) (t : Tables) (outer : Scope) → ((o : BodyPlaces) (awaited : List AwaitedPart) (u : Tables) (frames : Scope) → BodiesCounted inner o awaited u frames) → DeclarationCounted (plain.protected_body at i inner last) n t outer
+unfolding BodiesCounted DeclarationCounted
+protected_body_counted at i inner last n t outer f =
+    let found = objects.object_awaited i n in
+    let object = objects.body_object found t in
+    let here : Place = objects.object_behind i n in
+    let o : BodyPlaces = operations.body_places i.name object here in
+    omega (arith, f o (awaited_parts object (names.innermost here).parts) (objects.object_tables found i t) (bodies_scope o outer), ap length (body_object_units found i t))
 
 mutual
   count_statement : (x : plain.Statement) (around : Around) (n : Place) (t : Tables) (scope : Scope) → StatementCounted x around n t scope
@@ -510,7 +676,16 @@ mutual
   count_declaration (plain.task at is_type i x) n t outer = task_declaration_counted at is_type i x n t outer
   count_declaration (plain.task_body at i ds b) n t outer = task_body_counted at i ds b n t outer (λ m u scope. count_declarations ds m u scope) (λ within m u inner. count_body b within m u inner)
   count_declaration (plain.protected at i operations hidden last) n t outer = protected_counted at i operations hidden last n t outer
-  count_declaration (plain.protected_body at i inner last) n t outer = protected_body_counted at i inner last n t outer
+  count_declaration (plain.protected_body at i inner last) n t outer = protected_body_counted at i inner last n t outer (λ o awaited u frames. count_bodies inner o awaited u frames)
+
+  count_bodies : (x : plain.OperationBodies) (o : BodyPlaces) (awaited : List AwaitedPart) (t : Tables) (frames : Scope) → BodiesCounted x o awaited t frames
+  count_bodies plain.no_bodies o awaited t frames = no_bodies_counted o awaited t frames
+  count_bodies (plain.more_bodies x xs) o awaited t frames = more_bodies_counted x xs o awaited t frames (count_operation x o awaited t frames) (λ still u. count_bodies xs o still u frames)
+
+  count_operation : (x : plain.OperationBody) (o : BodyPlaces) (awaited : List AwaitedPart) (t : Tables) (frames : Scope) → OperationCounted x o awaited t frames
+  count_operation (plain.entry_body at i fs barrier ds b) o awaited t frames = entry_body_counted at i fs barrier ds b o awaited t frames (λ m u scope. count_declarations ds m u scope) (λ within m u inner. count_body b within m u inner)
+  count_operation (plain.procedure_body at i fs ds b) o awaited t frames = procedure_body_counted at i fs ds b o awaited t frames (λ m u scope. count_declarations ds m u scope) (λ within m u inner. count_body b within m u inner)
+  count_operation (plain.function_body at i fs mark ds b) o awaited t frames = function_body_counted at i fs mark ds b o awaited t frames (λ m u scope. count_declarations ds m u scope) (λ within m u inner. count_body b within m u inner)
 
 pub statement_counted : (x : plain.Statement) (around : Around) (n : Place) (t : Tables) (scope : Scope) → length (s.checked_statement x around n t).tables.units ≡ length t.units + length (in_statement x around n t scope)
 unfolding StatementCounted
@@ -548,6 +723,10 @@ pub declaration_counted : (x : plain.Declaration) (n : Place) (t : Tables) (oute
 unfolding DeclarationCounted
 declaration_counted x n t outer = count_declaration x n t outer
 
+pub operation_body_counted : (x : plain.OperationBody) (o : BodyPlaces) (awaited : List AwaitedPart) (t : Tables) (frames : Scope) → length (s.checked_operation x o awaited t).tables.units ≡ length t.units + length (in_operation x o awaited t frames)
+unfolding OperationCounted
+operation_body_counted x o awaited t frames = count_operation x o awaited t frames
+
 -- in a body that is entered
 pub entered_counted : (of_task : Bool) (ds : plain.Declarations) (b : plain.Body) (around : Around) (n : Place) (t : Tables) (outer : Scope) → length (s.entered_body of_task ds b around n t).tables.units ≡ length t.units + length (in_entered ds b around n t outer)
 entered_counted of_task ds b around n t outer = entering_counted of_task ds b around n t outer (λ scope. count_declarations ds n (region_kept t) scope) (λ m u inner. count_body b around m u inner)
@@ -556,12 +735,14 @@ entered_counted of_task ds b around n t outer = entering_counted of_task ds b ar
 
 pub record Ready (entries : List Entry) (t : Tables) (xs : List Entry) : Type 0 where
   pub even : length t.profiles ≡ length t.units
+  pub even_entries : length t.entry_profiles ≡ length t.entries
   pub long : length t.units + length xs ≤ length entries
   pub each : (k : ℕ) → k < length xs → entry_of entries (length t.units + k) ≡ slice_index_or xs k no_entry
 
 pub first_ready : (entries : List Entry) (t : Tables) (xs ys : List Entry) → Ready entries t (xs ++ ys) → Ready entries t xs
 first_ready entries t xs ys h = record {
   even = h.even;
+  even_entries = h.even_entries;
   long = omega (arith, h.long, length-append xs ys);
   each = λ k lt. h.each k (omega (arith, lt, length-append xs ys)) ∙ get_or_append_left xs ys no_entry k lt;
 }
@@ -569,6 +750,7 @@ first_ready entries t xs ys h = record {
 pub second_ready : (entries : List Entry) (t u : Tables) (xs ys : List Entry) → Grows t u → length u.units ≡ length t.units + length xs → Ready entries t (xs ++ ys) → Ready entries u ys
 second_ready entries t u xs ys g e h = record {
   even = omega (arith, h.even, g.even, ap length g.profiles, length-append t.profiles g.more_profiles);
+  even_entries = omega (arith, h.even_entries, g.entries, ap length g.entry_profiles, length-append t.entry_profiles g.more_entry_profiles);
   long = omega (arith, e, h.long, length-append xs ys);
   each = λ k lt.
       let at : length u.units + k ≡ length t.units + (length xs + k) = omega (arith, e) in

@@ -30,6 +30,7 @@ use Rattle.aud_names.specs.declared.names.TaskArray as task_array
 use Rattle.aud_names.specs.declared.names.Meaning.{Meaning}
 use Rattle.aud_names.specs.declared.names.Entry as named_entry
 use Rattle.aud_names.specs.declared.names.Owner.{Owner}
+use Rattle.aud_names.specs.declared.names.Owner.TheVariants as owner
 use Rattle.aud_names.specs.declared.names.Owner.TheVariants.{Single, Element}
 use Rattle.aud_names.specs.declared.names.Meaning.TheVariants.{ScalarType, Literal, Object, Array, Task, TaskArray, Entry}
 use Rattle.aud_typing.specs.declared.attribute.Attribute.{Attribute}
@@ -38,7 +39,7 @@ use Rattle.aud_names.specs.declared.rules.Base.{Base}
 use Rattle.aud_names.specs.declared.rules.Base.TheVariants.{Whole, Truth}
 use Rattle.aud_names.specs.Arrays.{array_at, task_array_at}
 use Rattle.aud_names.specs.Resolution as resolution
-use Rattle.aud_names.specs.Names.{Place, is_own}
+use Rattle.aud_names.specs.Names.{Place, is_countable}
 use Rattle.aud_names.specs.Rules as rules
 use Rattle.aud_typing.specs.Expressions as e
 use Rattle.aud_typing.specs.Expressions.{Typed, number, boolean, string, unknown, Entity, no_entity, entity, element_of, task_of, Denoting}
@@ -213,26 +214,30 @@ module _ (known : Known) (scope : Scope) where
   terminated_scoped (Task t) h = h
   terminated_scoped _ h = tt
 
-  count_value_scoped : (x : Owner) (k : ℕ) → OwnerScoped x scope → TypedScoped scope (e.count_value x k)
+  count_value_scoped : (x : Owner) (k : ℕ) → OwnerScoped known k x scope → TypedScoped scope (e.count_value x k)
   count_value_scoped (Single v) k h = h
   count_value_scoped (Element a) k h = tt
+  count_value_scoped (owner.Object x) k h = h.0
 
-  counted_scoped : (x : named_entry.Entry) (xs : plain.Args) (at : Pos) (n : Place) → OwnerScoped x.owner scope → TypedScoped scope (e.counted x xs at n).typed
-  counted_scoped x xs at n h = either (TypedScoped scope) (resolution.are_none xs && is_own x n) (e.count_value x.owner x.number) unknown (count_value_scoped x.owner x.number h) tt
+  counted_scoped : (x : named_entry.Entry) (xs : plain.Args) (at : Pos) (n : Place) → OwnerScoped known x.number x.owner scope → TypedScoped scope (e.counted x xs at n).typed
+  counted_scoped x xs at n h = either (TypedScoped scope) (resolution.are_none xs && is_countable x n) (e.count_value x.owner x.number) unknown (count_value_scoped x.owner x.number h) tt
 
   count_scoped : (m : Meaning) (xs : plain.Args) (prefix designator : Pos) (a : Option (Pos × Typed)) (n : Place) → MeaningScoped known scope m → TypedScoped scope (e.count m xs prefix designator a n).typed
   count_scoped (Entry x) xs prefix designator a n h = no_argument_scoped designator a _ (counted_scoped x xs prefix n h.1)
   count_scoped _ xs prefix designator a n h = tt
 
-  attribute_of_scoped : (x : Option Attribute) (m : Meaning) (xs : plain.Args) (prefix designator : Pos) (a : Option (Pos × Typed)) (n : Place) → MeaningScoped known scope m → IfSome a (λ x. TypedScoped scope x.1) → TypedScoped scope (e.attribute_named x m xs prefix designator a n).typed
-  attribute_of_scoped None m xs prefix designator a n h i = tt
-  attribute_of_scoped (Some Image) m xs prefix designator a n h i = any_image_scoped m prefix designator a h i
-  attribute_of_scoped (Some First) m xs prefix designator a n h i = bound_scoped (e.first_of m) prefix designator a
-  attribute_of_scoped (Some Last) m xs prefix designator a n h i = bound_scoped (e.last_of m) prefix designator a
-  attribute_of_scoped (Some Length) m xs prefix designator a n h i = bound_scoped (e.length_of m) prefix designator a
-  attribute_of_scoped (Some Callable) m xs prefix designator a n h i = asked_scoped (e.callable_of m) prefix designator a (callable_scoped m h)
-  attribute_of_scoped (Some Terminated) m xs prefix designator a n h i = asked_scoped (e.terminated_of m) prefix designator a (terminated_scoped m h)
-  attribute_of_scoped (Some Count) m xs prefix designator a n h i = count_scoped m xs prefix designator a n h
+  attribute_of_scoped : (x : Attribute) (m : Meaning) (xs : plain.Args) (prefix designator : Pos) (a : Option (Pos × Typed)) (n : Place) → MeaningScoped known scope m → IfSome a (λ x. TypedScoped scope x.1) → TypedScoped scope (e.attribute_of x m xs prefix designator a n).typed
+  attribute_of_scoped Image m xs prefix designator a n h i = any_image_scoped m prefix designator a h i
+  attribute_of_scoped First m xs prefix designator a n h i = bound_scoped (e.first_of m) prefix designator a
+  attribute_of_scoped Last m xs prefix designator a n h i = bound_scoped (e.last_of m) prefix designator a
+  attribute_of_scoped Length m xs prefix designator a n h i = bound_scoped (e.length_of m) prefix designator a
+  attribute_of_scoped Callable m xs prefix designator a n h i = asked_scoped (e.callable_of m) prefix designator a (callable_scoped m h)
+  attribute_of_scoped Terminated m xs prefix designator a n h i = asked_scoped (e.terminated_of m) prefix designator a (terminated_scoped m h)
+  attribute_of_scoped Count m xs prefix designator a n h i = count_scoped m xs prefix designator a n h
+
+  attribute_named_scoped : (x : Option Attribute) (m : Meaning) (xs : plain.Args) (prefix designator : Pos) (a : Option (Pos × Typed)) (n : Place) → MeaningScoped known scope m → IfSome a (λ x. TypedScoped scope x.1) → TypedScoped scope (e.attribute_named x m xs prefix designator a n).typed
+  attribute_named_scoped None m xs prefix designator a n h i = tt
+  attribute_named_scoped (Some x) m xs prefix designator a n h i = either (λ (y : e.Checked). TypedScoped scope y.typed) (resolution.is_function m) _ _ tt (attribute_of_scoped x m xs prefix designator a n h i)
 
   element_attribute_scoped : (x : Option Attribute) (t : Typed) (prefix designator : Pos) (a : Option (Pos × Typed)) → TypedScoped scope t → TypedScoped scope (e.element_attribute x t prefix designator a).typed
   element_attribute_scoped None t prefix designator a h = tt
@@ -247,7 +252,7 @@ module _ (known : Known) (scope : Scope) where
 
   attribute_scoped : (x : Entity) (xs : plain.Args) (prefix : Pos) (designator : Ident) (a : Option (Pos × Typed)) (n : Place) → EntityScoped known scope x → IfSome a (λ x. TypedScoped scope x.1) → TypedScoped scope (e.attribute_if x xs prefix designator a n).typed
   attribute_scoped no_entity xs prefix designator a n h i = tt
-  attribute_scoped (entity m) xs prefix designator a n h i = attribute_of_scoped (lookup (bytes_eq designator.name) e.attributes) m xs prefix designator.at a n h i
+  attribute_scoped (entity m) xs prefix designator a n h i = attribute_named_scoped (lookup (bytes_eq designator.name) e.attributes) m xs prefix designator.at a n h i
   attribute_scoped (element_of v index t) xs prefix designator a n h i = element_attribute_scoped (lookup (bytes_eq designator.name) e.attributes) (e.stored_at v index t) prefix designator.at a (element_scoped v index t h)
   attribute_scoped (task_of v index) xs prefix designator a n h i = task_attribute_scoped (lookup (bytes_eq designator.name) e.attributes) (tree.indexed v index) prefix designator.at a h
 
@@ -343,10 +348,14 @@ module _ (known : Known) (scope : Scope) (n : Place) (sees : Sees known scope n)
   pub prefix_scoped : (x : plain.Name) → TypedScoped scope (e.checked_prefix x n).typed
   prefix_scoped (plain.named p ps) = part_scoped p unknown tt
 
+  -- a value for a place that asks for a subtype
+  pub given_scoped : (x : plain.Expression) (t : Option Subtype) → ValueScoped (d.given_value x t n) scope
+  given_scoped x t = value_scoped known scope (d.known t) (e.checked_expression x n).typed (expression_scoped x)
+
   -- the initial value of a declaration
   pub initial_scoped : (x : plain.MaybeExpression) (t : Option Subtype) → ValueScoped (d.initial_value x t n) scope
   initial_scoped plain.no_expression t = default_scoped known scope (d.known t)
-  initial_scoped (plain.an_expression x) t = value_scoped known scope (d.known t) (e.checked_expression x n).typed (expression_scoped x)
+  initial_scoped (plain.an_expression x) t = given_scoped x t
 
   pub condition_scoped : (x : plain.Expression) → BooleanScoped (q.condition x n) scope
   condition_scoped x = truth_scoped known scope (e.checked_expression x n).typed (expression_scoped x)

@@ -1,7 +1,7 @@
 -- Statements by themselves, and what is put together of them, use what is elaborated, or there.
-use Rattle.std.specs.Prelude.{IfSome}
+use Rattle.std.specs.Prelude.{IfSome, if◌then◌else◌}
 use Rattle.std.specs.List.{AllByRecursion}
-use Rattle.std.proofs.Common.{◌≡◌, ℕ, true, List, [], ◌∷◌, length, slice_index_or, Option, Some, None, refl, sym, ◌∙◌, subst}
+use Rattle.std.proofs.Common.{◌≡◌, ℕ, Bool, true, false, List, [], ◌∷◌, length, slice_index_or, Option, Some, None, refl, sym, ◌∙◌, subst}
 use Rattle.aud_text.specs.declared.place.Pos.{Pos}
 use Rattle.aud_syntax.specs.declared.tree.Ident.{Ident}
 use Rattle.aud_syntax.specs.Plain as plain
@@ -11,12 +11,15 @@ use Rattle.aud_typed.specs.declared.program.Subtype.{Subtype}
 use Rattle.aud_typed.specs.declared.program.Exception as exception
 use Rattle.aud_typed.specs.Tree as tree
 use Rattle.aud_typed.specs.Tree.{Plan}
-use Rattle.aud_typed.specs.Why.Scoped.{Scope, IsElaborated, AreElaborated, IntegerScoped, BooleanScoped, TaskScoped, DelayScoped, FormScoped, scope_after, AllThere, ArgumentsScoped, StatementScoped, PartScoped, HandlersScoped, DoingScoped, AlternativesScoped}
+use Rattle.aud_typed.specs.Why.Scoped.{Scope, IsElaborated, AreElaborated, IntegerScoped, ReferenceScoped, BooleanScoped, TaskScoped, CalleeScoped, IntoScoped, BodyAround, DelayScoped, FormScoped, scope_after, AllThere, ArgumentsScoped, StatementScoped, PartScoped, HandlersScoped, DoingScoped, AlternativesScoped}
 use Rattle.aud_names.specs.declared.names.Meaning.{Meaning}
 use Rattle.aud_names.specs.declared.names.Meaning.TheVariants.{Object, Exception, Builtin}
 use Rattle.aud_names.specs.declared.names.Entry as named_entry
 use Rattle.aud_names.specs.declared.names.Owner.{Owner}
+use Rattle.aud_names.specs.declared.names.Owner.TheVariants as owner
 use Rattle.aud_names.specs.declared.names.Owner.TheVariants.{Single, Element}
+use Rattle.aud_names.specs.declared.names.Instance.{Instance}
+use Rattle.aud_names.specs.declared.names.Operation as operation
 use Rattle.aud_names.specs.declared.names.Meaning.TheVariants as meaning
 use Rattle.aud_names.specs.declared.names.Builtin as names_in_memory
 use Rattle.aud_names.specs.declared.names.Builtin.TheVariants.{Put, PutLine, NewLine}
@@ -25,15 +28,18 @@ use Rattle.aud_names.specs.Names.{Place}
 use Rattle.aud_typing.specs.Expressions.{Typed, number, string, Entity, no_entity, entity, element_of, task_of}
 use Rattle.aud_check_bodies.specs.Assignments as assignments
 use Rattle.aud_check_bodies.specs.Accepts as accepts
+use Rattle.aud_check_bodies.specs.Arguments as arguments
 use Rattle.aud_check_bodies.specs.Calls as calls
+use Rattle.aud_check_bodies.specs.Values as values
+use Rattle.aud_check_bodies.specs.declared.call.Callee.TheVariants.{Operation}
 use Rattle.aud_check_bodies.specs.Delays as delays
 use Rattle.aud_check_bodies.specs.Selects as selects
 use Rattle.aud_check_bodies.specs.Handlers as handlers
 use Rattle.aud_check_bodies.specs.Statements as s
 use Rattle.aud_check_bodies.specs.Statements.{Around, nothing_around, TypedArm, TypedHandler}
-use Rattle.aud_check_bodies.proofs.Scoping.Names.{Known, IsCallable, IsEntry, OwnerScoped, MeaningScoped, VisibleScoped, Sees}
+use Rattle.aud_check_bodies.proofs.Scoping.Names.{Known, IsCallable, IsOperation, IsEntry, IsEntryBody, OwnerScoped, MeaningScoped, VisibleScoped, Sees}
 use Rattle.aud_check_bodies.proofs.Scoping.Expressions.{TypedScoped, EntityScoped, value_scoped, whole_scoped}
-use Rattle.std.proofs.Common.{◌≡◌, ℕ, true, List, [], ◌∷◌, ◌++◌, length, slice_index_or, Option, Some, None, refl, sym, ◌∙◌, subst}
+use Rattle.std.proofs.Common.{◌≡◌, ℕ, Bool, true, false, List, [], ◌∷◌, ◌++◌, length, slice_index_or, Option, Some, None, refl, sym, ◌∙◌, subst}
 use Rattle.aud_typed.specs.Why.Scoped.{Scope, AllCreatedScoped, scope_behind, all_of_table, Elaborated, Entry, StatementScoped, PartScoped, HandlersScoped, BodyScoped}
 use Rattle.aud_names.specs.declared.names.Meaning.TheVariants.{ScalarType, Literal, Object, Array, Exception, Builtin, Procedure, TaskType, Task, TaskArray}
 use Rattle.aud_names.specs.Names.{Region, Place}
@@ -42,9 +48,9 @@ use Rattle.aud_check_bodies.specs.Tables.{Tables, profile_of, entry_profile_of}
 use Rattle.aud_typing.specs.Expressions as e
 use Rattle.aud_check_bodies.specs.Statements.{Around, nothing_around, task_around}
 use Rattle.aud_check_bodies.proofs.Scoping.Names.{Known, IsCallable, VisibleScoped, Sees, Fits, regions_see, resolved_scoped}
-use Rattle.aud_check_bodies.proofs.Scoping.Expressions.{expression_scoped, arguments_scoped, prefix_scoped}
-use Rattle.aud_check_bodies.proofs.Scoping.Arguments.{all_passed_scoped}
-use Rattle.aud_check_bodies.proofs.Scoping.Units.{seen}
+use Rattle.aud_check_bodies.proofs.Scoping.Expressions.{denoting_scoped, expression_scoped, arguments_scoped, prefix_scoped}
+use Rattle.aud_check_bodies.proofs.Scoping.Arguments.{reference_scoped, all_passed_scoped}
+use Rattle.aud_check_bodies.proofs.Scoping.Tables.{seen}
 
 -- a statement, which elaborates nothing
 abbrev pub IsStatement : Known → Scope → tree.Statement → Type 0
@@ -118,23 +124,55 @@ module _ (known : Known) (scope : Scope) where
   -- of a procedure of the program, whose arguments have no faults
   pub procedure_called_scoped : known.complete ≡ true → (unit : ℕ) (at : Pos) (xs : Option (List tree.Argument)) → IsCallable known scope unit → IfSome xs (λ ys. (length ys ≡ length (slice_index_or known.profiles unit [])) × ArgumentsScoped ys scope) → IsStatement known scope (calls.procedure_called unit at xs)
   procedure_called_scoped whole unit at None h i = (tt, refl)
-  procedure_called_scoped whole unit at (Some xs) h i = ((h.entered, i.0 ∙ h.formals, h.outer whole, i.1, refl), refl)
+  procedure_called_scoped whole unit at (Some xs) h i = ((h.entered, i.0 ∙ h.formals, h.outer whole, i.1, tt), refl)
+
+  -- of an operation of an object
+
+  by_access_scoped : known.complete ≡ true → (inside : Bool) (x : Instance) (at : Pos) (c : tree.Calling) → IsElaborated x.variable scope → IsOperation known scope inside c.unit → length c.arguments ≡ length (slice_index_or known.profiles c.unit []) → ArgumentsScoped c.arguments scope → IntoScoped c.into scope
+      → IsStatement known scope (calls.by_access inside x at c)
+  by_access_scoped whole true x at c v h l i j = ((h.entered, l ∙ h.formals, h.outer whole, i, j), refl)
+  by_access_scoped whole false x at c v h l i j = ((v, (h.entered, l ∙ h.formals, h.outer whole, i, j)), refl)
+
+  pub operation_called_scoped : known.complete ≡ true → (o : operation.Operation) (into : Option tree.Reference) (at : Pos) (xs : Option (List tree.Argument)) → MeaningScoped known scope (meaning.Operation o) → IntoScoped into scope
+      → IfSome xs (λ ys. (length ys ≡ length (slice_index_or known.profiles o.unit [])) × ArgumentsScoped ys scope) → IsStatement known scope (calls.operation_called o into at xs)
+  operation_called_scoped whole o into at None h j i = (tt, refl)
+  operation_called_scoped whole o into at (Some xs) h j i = by_access_scoped whole (names.is_inside o.instance.access) o.instance at (record { unit = o.unit; arguments = xs; into = into }) h.0 h.1 i.0 i.1 j
+
+  -- the value of a function is assigned
+  pub returned_scoped : known.complete ≡ true → (r : Option tree.Reference) (o : operation.Operation) (at : Pos) (xs : Option (List tree.Argument)) → MeaningScoped known scope (meaning.Operation o) → IfSome r (λ x. ReferenceScoped x scope)
+      → IfSome xs (λ ys. (length ys ≡ length (slice_index_or known.profiles o.unit [])) × ArgumentsScoped ys scope) → IsStatement known scope (values.returned_into r o at xs)
+  returned_scoped whole None o at xs h j i = (tt, refl)
+  returned_scoped whole (Some r) o at xs h j i = operation_called_scoped whole o (Some r) at xs h j i
 
   -- of an entry
 
+  abbrev pub WhoseScoped : ℕ → calls.Whose → Type 0
+  WhoseScoped k calls.own_object = Unit {0}
+  WhoseScoped k (calls.another c) = CalleeScoped c scope × BodyAround known.plan known.entries c k scope
+
   abbrev pub CalledScoped : calls.EntryCalled → Type 0
-  CalledScoped c = IsEntry known c.entry × TaskScoped c.task scope × ArgumentsScoped c.arguments scope
+  CalledScoped c = IsEntry known c.entry × WhoseScoped c.entry c.whose × ArgumentsScoped c.arguments scope
+
+  entry_call_to_scoped : (x : calls.Whose) (at : Pos) (k : ℕ) (xs : List tree.Argument) (form : tree.CallForm) (p q : tree.Part) → FormScoped form scope → PartScoped known.plan known.entries p scope → PartScoped known.plan known.entries q scope → IsEntry known k → WhoseScoped k x → ArgumentsScoped xs scope
+      → IsStatement known scope (calls.entry_call_to x at k xs form p q)
+  entry_call_to_scoped calls.own_object at k xs form p q f h i n w c = ((c, f), refl)
+  entry_call_to_scoped (calls.another y) at k xs form p q f h i n w c = (((n, w.0, c, f, w.1), h, i), refl)
 
   pub entry_call_scoped : (at : Pos) (form : tree.CallForm) (p q : tree.Part) (c : Option calls.EntryCalled) → FormScoped form scope → PartScoped known.plan known.entries p scope → PartScoped known.plan known.entries q scope → IfSome c CalledScoped → IsStatement known scope (calls.entry_call_of at form p q c)
   entry_call_scoped at form p q None f h i c = (tt, refl)
-  entry_call_scoped at form p q (Some x) f h i c = (((c.0, c.1, c.2, f), h, i), refl)
+  entry_call_scoped at form p q (Some x) f h i c = entry_call_to_scoped x.whose at x.entry x.arguments form p q f h i c.0 c.1 c.2
 
-  task_scoped : (x : Owner) (t : Typed) → OwnerScoped x scope → TypedScoped scope t → IfSome (calls.called_task x t) (λ y. TaskScoped y scope)
-  task_scoped (Single v) t h i = h
-  task_scoped (Element a) (number k) h i = (h, i)
-  task_scoped (Element a) _ h i = tt
+  object_scoped : known.complete ≡ true → (inside : Bool) (x : Instance) (n : ℕ) → IsElaborated x.variable scope → (inside ≡ false → IsEntryBody known scope n) → WhoseScoped n (calls.called_object inside x)
+  object_scoped whole true x n v h = tt
+  object_scoped whole false x n v h = let body = h refl in (v, (body.entered, body.outer whole))
 
-  with_called : (n : ℕ) (t : Option tree.TaskName) (xs : Option (List tree.Argument)) (k : ℕ) → IsEntry known n → IfSome t (λ y. TaskScoped y scope) → IfSome xs (λ ys. (length ys ≡ k) × ArgumentsScoped ys scope) → IfSome (calls.called_with n t xs) CalledScoped
+  owner_scoped : known.complete ≡ true → (x : Owner) (n : ℕ) (t : Typed) → OwnerScoped known n x scope → TypedScoped scope t → IfSome (calls.called_owner x t) (WhoseScoped n)
+  owner_scoped whole (Single v) n t h i = (h, tt)
+  owner_scoped whole (Element a) n (number k) h i = ((h, i), tt)
+  owner_scoped whole (Element a) n _ h i = tt
+  owner_scoped whole (owner.Object x) n t h i = object_scoped whole (names.is_inside x.access) x n h.0 h.1
+
+  with_called : (n : ℕ) (t : Option calls.Whose) (xs : Option (List tree.Argument)) (k : ℕ) → IsEntry known n → IfSome t (WhoseScoped n) → IfSome xs (λ ys. (length ys ≡ k) × ArgumentsScoped ys scope) → IfSome (calls.called_with n t xs) CalledScoped
   with_called n None xs k e h i = tt
   with_called n (Some t) None k e h i = tt
   with_called n (Some t) (Some xs) k e h i = (e, h, i.1)
@@ -170,13 +208,19 @@ module _ (known : Known) (scope : Scope) where
 
 module _ (plan : Plan) (entries : List Entry) where
   -- what a call of an entry calls
-  pub entry_called_scoped : (x : named_entry.Entry) (y : plain.Name) (n : Place) (t : Tables) (scope : Scope) → Sees (seen plan entries t) scope n → IsEntry (seen plan entries t) x.number × OwnerScoped x.owner scope → IfSome (calls.entry_called x y n t) (CalledScoped (seen plan entries t) scope)
+  pub entry_called_scoped : (x : named_entry.Entry) (y : plain.Name) (n : Place) (t : Tables) (scope : Scope) → Sees (seen plan entries t) scope n → IsEntry (seen plan entries t) x.number × OwnerScoped (seen plan entries t) x.number x.owner scope → IfSome (calls.entry_called x y n t) (CalledScoped (seen plan entries t) scope)
   entry_called_scoped x y n t scope sees h =
-      with_called (seen plan entries t) scope x.number _ _ _ h.0 (task_scoped (seen plan entries t) scope x.owner _ h.1 (index x.owner)) (all_passed_scoped (seen plan entries t) scope n sees (entry_profile_of x.number t) (resolution.last_args y))
+      with_called (seen plan entries t) scope x.number _ _ _ h.0 (owner_scoped (seen plan entries t) scope refl x.owner x.number _ h.1 (index x.owner)) (all_passed_scoped (seen plan entries t) scope n sees (entry_profile_of x.number t) (resolution.last_args y))
     where
       index : (o : Owner) → TypedScoped scope (calls.index_checked o y n).typed
       index (Single v) = tt
       index (Element a) = prefix_scoped (seen plan entries t) scope n sees y
+      index (owner.Object z) = tt
+
+  operation_scoped : (v : Bool) (o : operation.Operation) (x : plain.Name) (n : Place) (t : Tables) (scope : Scope) → Sees (seen plan entries t) scope n → MeaningScoped (seen plan entries t) scope (meaning.Operation o)
+      → IsStatement (seen plan entries t) scope (calls.called_as (if v then None else Some (Operation o)) (record { meaning = Some (meaning.Operation o); at = (resolution.resolved x n).denoted.at }) x n t)
+  operation_scoped true o x n t scope sees h = (tt, refl)
+  operation_scoped false o x n t scope sees h = operation_called_scoped (seen plan entries t) scope refl o None (resolution.name_ident x).at _ h tt (all_passed_scoped (seen plan entries t) scope n sees (profile_of o.unit t) (resolution.last_args x))
 
   -- a call
   pub call_scoped : (x : plain.Name) (n : Place) (t : Tables) (scope : Scope) → Fits (seen plan entries t) scope n → IsStatement (seen plan entries t) scope (calls.typed_call x n t)
@@ -193,6 +237,9 @@ module _ (plan : Plan) (entries : List Entry) where
 
       by : (m : Option Meaning) → VisibleScoped (seen plan entries t) scope m → IsStatement (seen plan entries t) scope (calls.called_as (calls.callee_meant m) (record { meaning = m; at = (resolution.resolved x n).denoted.at }) x n t)
       by (Some (Procedure unit)) h = procedure_called_scoped (seen plan entries t) scope refl unit at _ h (all_passed_scoped (seen plan entries t) scope n sees (profile_of unit t) (resolution.last_args x))
+      by (Some (meaning.Operation o)) h = operation_scoped (resolution.is_value o.subprogram) o x n t scope sees h
+      by (Some (meaning.Protected y)) h = other (Some (meaning.Protected y))
+      by (Some meaning.Barred) h = other (Some meaning.Barred)
       by (Some (meaning.Entry y)) h = entry_call_scoped (seen plan entries t) scope at tree.plainly tree.nothing tree.nothing (calls.entry_called y x n t) tt tt tt (entry_called_scoped y x n t scope sees h)
       by None h = other None
       by (Some (Builtin b)) h = other (Some (Builtin b))
@@ -205,10 +252,41 @@ module _ (plan : Plan) (entries : List Entry) where
       by (Some (Task v)) h = other (Some (Task v))
       by (Some (TaskArray a)) h = other (Some (TaskArray a))
 
+  -- an assignment
+
+  value_assigned_scoped : (f : Option values.FunctionCalled) (x : plain.Name) (value : plain.Expression) (n : Place) (t : Tables) (scope : Scope) → Sees (seen plan entries t) scope n → IfSome f (λ g. MeaningScoped (seen plan entries t) scope (meaning.Operation g.operation))
+      → IsStatement (seen plan entries t) scope (values.value_assigned f value (assignments.target_of x n).entity (resolution.name_ident x).at n t)
+  value_assigned_scoped None x value n t scope sees h =
+      assigned_scoped (seen plan entries t) scope (assignments.target_of x n).entity (resolution.name_ident x).at (e.checked_expression value n).typed (denoting_scoped (seen plan entries t) scope n sees x _ (arguments_scoped (seen plan entries t) scope n sees x)) (expression_scoped (seen plan entries t) scope n sees value)
+  value_assigned_scoped (Some f) x value n t scope sees h =
+      returned_scoped (seen plan entries t) scope refl (arguments.reference_of (assignments.target_of x n).entity) f.operation (resolution.name_ident x).at (arguments.all_passed (profile_of f.operation.unit t) (resolution.last_args f.name) n) h
+      (reference_scoped (seen plan entries t) scope (assignments.target_of x n).entity (denoting_scoped (seen plan entries t) scope n sees x _ (arguments_scoped (seen plan entries t) scope n sees x)))
+      (all_passed_scoped (seen plan entries t) scope n sees (profile_of f.operation.unit t) (resolution.last_args f.name))
+
+  function_scoped : (m : Option Meaning) (y : plain.Name) (at : Pos) (t : Tables) (scope : Scope) → VisibleScoped (seen plan entries t) scope m → IfSome (values.function_denoted y at m) (λ g. MeaningScoped (seen plan entries t) scope (meaning.Operation g.operation))
+  function_scoped (Some (meaning.Operation o)) y at t scope h = by (resolution.is_value o.subprogram)
+    where
+      by : (b : Bool) → IfSome (if b then Some (record { name = y; operation = o; at = at }) else None) (λ (g : values.FunctionCalled). MeaningScoped (seen plan entries t) scope (meaning.Operation g.operation))
+      by true = h
+      by false = tt
+  function_scoped _ y at t scope h = tt
+
+  called_function_scoped : (y : Option plain.Name) (n : Place) (t : Tables) (scope : Scope) → Sees (seen plan entries t) scope n → IfSome (values.function_named y n) (λ g. MeaningScoped (seen plan entries t) scope (meaning.Operation g.operation))
+  called_function_scoped None n t scope sees = tt
+  called_function_scoped (Some y) n t scope sees = function_scoped (resolution.resolved y n).denoted.meaning y (resolution.resolved y n).denoted.at t scope (resolved_scoped (seen plan entries t) scope n sees y)
+
+  pub assign_scoped : (x : plain.Name) (value : plain.Expression) (n : Place) (t : Tables) (scope : Scope) → Sees (seen plan entries t) scope n → IsStatement (seen plan entries t) scope (values.typed_assign x value n t)
+  assign_scoped x value n t scope sees = value_assigned_scoped (values.function_called value n) x value n t scope sees (called_function_scoped (arguments.expression_name value) n t scope sees)
+
   -- a timed or a conditional call
+
+  selected_operation_scoped : (v : Bool) (o : operation.Operation) (x : plain.Name) (n : Place) (t : Tables) (scope : Scope) → IfSome (calls.selected_as (if v then None else Some (Operation o)) x n t) (CalledScoped (seen plan entries t) scope)
+  selected_operation_scoped true o x n t scope = tt
+  selected_operation_scoped false o x n t scope = tt
 
   selected_as_scoped : (m : Option Meaning) (x : plain.Name) (n : Place) (t : Tables) (scope : Scope) → Sees (seen plan entries t) scope n → VisibleScoped (seen plan entries t) scope m → IfSome (calls.selected_as (calls.callee_meant m) x n t) (CalledScoped (seen plan entries t) scope)
   selected_as_scoped (Some (meaning.Entry y)) x n t scope sees h = entry_called_scoped y x n t scope sees h
+  selected_as_scoped (Some (meaning.Operation o)) x n t scope sees h = selected_operation_scoped (resolution.is_value o.subprogram) o x n t scope
   selected_as_scoped _ x n t scope sees h = tt
 
   pub selected_scoped : (x : plain.Name) (n : Place) (t : Tables) (scope : Scope) → Sees (seen plan entries t) scope n → IfSome (calls.selected_call x n t) (CalledScoped (seen plan entries t) scope)

@@ -1,6 +1,7 @@
 -- Statements and bodies without faults use what is elaborated, or there.
+use Rattle.std.specs.Prelude.{if◌then◌else◌}
 use Rattle.std.specs.List.{AllByRecursion}
-use Rattle.std.proofs.Common.{◌≡◌, ◌+◌, ◌<◌, ◌≤◌, ℕ, Bool, true, false, List, [], ◌∷◌, ◌++◌, length, slice_index_or, Option, Some, None, arith, refl, sym, ◌∙◌, ap, subst}
+use Rattle.std.proofs.Common.{◌≡◌, ◌⊎◌, ◌+◌, ◌<◌, ◌≤◌, ℕ, Bool, true, false, List, [], ◌∷◌, ◌++◌, length, slice_index_or, Option, Some, None, arith, refl, sym, ◌∙◌, ap, subst}
 use Rattle.std.proofs.lemmas.List.{length_push, get_or_push}
 use Rattle.aud_text.specs.declared.place.Pos.{Pos}
 use Rattle.aud_syntax.specs.declared.tree.Bound.{Bound}
@@ -8,9 +9,18 @@ use Rattle.aud_syntax.specs.declared.tree.Ident.{Ident}
 use Rattle.aud_syntax.specs.Plain as plain
 use Rattle.aud_typed.specs.Tree as tree
 use Rattle.aud_typed.specs.Tree.{Plan}
-use Rattle.aud_typed.specs.Why.Scoped.{Scope, none_yet, no_task, AllCreatedScoped, cells_of, all_of_table, table, Elaborated, Entry, entry_of, all_formals, AreOpen, StatementScoped, PartScoped, HandlersScoped, BodyScoped, DoingScoped, UnitScoped}
+use Rattle.aud_typed.specs.Why.Scoped.{Scope, none_yet, no_task, AllCreatedScoped, AreAround, cells_of, all_of_table, table, Elaborated, Entry, entry_of, AreDistinct, all_formals, AreOpen, StatementScoped, PartScoped, HandlersScoped, BodyScoped, DoingScoped, UnitScoped}
 use Rattle.aud_names.specs.declared.names.NamedParameter.{NamedParameter}
 use Rattle.aud_names.specs.declared.awaited.Awaited.{Awaited}
+use Rattle.aud_names.specs.declared.awaited.AwaitedObject.{AwaitedObject}
+use Rattle.aud_names.specs.declared.awaited.AwaitedPart.{AwaitedPart}
+use Rattle.aud_names.specs.declared.names.Access.TheVariants.{Outside, Inside, InFunction}
+use Rattle.aud_names.specs.declared.parts.ObjectPart.{ObjectPart}
+use Rattle.aud_names.specs.declared.parts.PartKind.{PartKind}
+use Rattle.aud_names.specs.declared.array.Kind.TheVariants.{Protected}
+use Rattle.aud_names.specs.Objects as named_objects
+use Rattle.aud_names.specs.Objects.{own_instance}
+use Rattle.aud_fault.specs.declared.fault.Fault.{Fault}
 use Rattle.aud_names.specs.declared.entries.EntryName.{EntryName}
 use Rattle.aud_names.specs.declared.names.Meaning.{Meaning}
 use Rattle.aud_names.specs.declared.names.Meaning.TheVariants as meaning
@@ -18,11 +28,15 @@ use Rattle.aud_names.specs.Names as names
 use Rattle.aud_names.specs.Names.{Region, Place}
 use Rattle.aud_names.specs.Resolution as resolution
 use Rattle.aud_names.specs.Rules as rules
-use Rattle.aud_check_bodies.specs.Tables.{Tables, Outcome, no_body, with_region, region_kept, unit_kept, with_unit, task_kept}
+use Rattle.aud_check_bodies.specs.Tables.{Tables, Outcome, no_body, with_region, region_kept, unit_kept, with_unit, task_kept, object_kept}
 use Rattle.aud_check_bodies.specs.Accepts as accepts
 use Rattle.aud_check_bodies.specs.Calls as calls
 use Rattle.aud_check_bodies.specs.Delays as delays
 use Rattle.aud_check_bodies.specs.Entries as declared
+use Rattle.aud_check_bodies.specs.Objects as objects
+use Rattle.aud_check_bodies.specs.Objects.{ObjectDeclared}
+use Rattle.aud_check_bodies.specs.Operations as operations
+use Rattle.aud_check_bodies.specs.Operations.{Head, of_entry, of_function, BodyPlaces}
 use Rattle.aud_check_bodies.specs.Selects as selects
 use Rattle.aud_check_bodies.specs.Declarations as d
 use Rattle.aud_check_bodies.specs.Tasks as tasks
@@ -33,14 +47,18 @@ use Rattle.aud_check_bodies.specs.Assignments as assignments
 use Rattle.aud_check_bodies.specs.Handlers as handlers
 use Rattle.aud_check_bodies.specs.Statements as s
 use Rattle.aud_check_bodies.specs.Statements.{Around, nothing_around, task_around}
-use Rattle.aud_check_bodies.proofs.Scoping.Names.{Known, when, IsCallable, IsTaskType, IsEntry, EntriesThere, VisibleScoped, RegionsScoped, Fits, regions_see, regions_more, regions_when, open_further}
-use Rattle.aud_check_bodies.proofs.Scoping.Expressions.{denoting_scoped, expression_scoped, arguments_scoped, condition_scoped, maybe_condition_scoped, bound_of_scoped}
-use Rattle.aud_check_bodies.proofs.Scoping.Declarations.{elaborated, all_elaborated, both_none, RegionScoped, empty_scoped, InBody, DeclaredScoped, body_fits, body_regions, objects_scoped, objects_more, objects_awaited, arrays_scoped, arrays_more, arrays_awaited, exceptions_scoped, exceptions_cells, exceptions_awaited, procedure_scoped, procedure_elaborates, procedure_cells, procedure_awaited, formals_scoped, formals_awaited, task_scoped, task_more, task_waits, in_frame, in_loop, in_task, task_frame, task_begins}
-use Rattle.aud_check_bodies.proofs.Scoping.Tables.{further, region_grows, named_grows, unit_grows, task_grows, kept_grows, entries_grow, entries_units, entries_tasks, entries_numbered, Numbered, InPlan, declared_tables, first_in_plan, second_in_plan, named_table, kept_in_plan, entered_table, statement_grows, statements_grow, accepts_grow, alternative_grows, alternatives_grow, otherwise_grows, arms_grow, others_grow, body_grows, handlers_grow, entered_grows, declaration_grows, declarations_grow}
-use Rattle.aud_check_bodies.proofs.Scoping.Entries.{of_task, of_body, in_statement, in_accept, in_doing, in_alternative, in_alternatives, in_otherwise, in_arms, in_statements, in_others, in_body, in_handlers, in_entered, in_declaration, in_declarations, statement_counted, accept_is_counted, alternative_counted, alternatives_counted, others_counted, arms_counted, statements_counted, declaration_counted, declarations_counted, Ready, first_ready, second_ready}
-use Rattle.aud_check_bodies.proofs.Scoping.Elaborations.{elaborates_append, part_elaborates, AllCreated, none_created, created_append, created_with, part_created, with_activation_elaborates, with_activation_creates}
-use Rattle.aud_check_bodies.proofs.Scoping.Units.{no_fault, found_unit, none_waits, Waits, Stay, seen, IsUnit, Units, none_between, units_join, fits_grown, body_grown, units_put, InPart, part_begins, part_ends, part_goes_on, part_with_task, part_with_body}
-use Rattle.aud_check_bodies.proofs.Scoping.Single.{call_scoped, entry_call_scoped, selected_scoped, delay_scoped, form_scoped, body_with_scoped, IsStatement, AcceptScoped, AlternativeScoped, ArmScoped, HandlerScoped, alternatives_scoped, before_scoped, part_scoped, arms_then_scoped, handlers_of_scoped, assigned_scoped, choices_there, raise_scoped}
+use Rattle.aud_check_bodies.proofs.Scoping.Names.{Known, when, IsCallable, IsTaskType, IsEntry, EntriesThere, PartsThere, VisibleScoped, RegionsScoped, Fits, either, regions_see, regions_more, regions_when, open_further, around_open}
+use Rattle.aud_check_bodies.proofs.Scoping.Expressions.{given_scoped, condition_scoped, maybe_condition_scoped, bound_of_scoped}
+use Rattle.aud_check_bodies.proofs.Scoping.Declarations.{Waiting, no_waiting, waits_in, not_declared, symbol_scoped, one_elaborated, others_stay, elaborated, all_elaborated, both_none, RegionScoped, empty_scoped, InBody, DeclaredScoped, body_fits, body_regions, objects_scoped, objects_more, objects_awaited, arrays_scoped, arrays_more, arrays_awaited, exceptions_scoped, exceptions_cells, exceptions_awaited, procedure_scoped, procedure_elaborates, procedure_cells, procedure_awaited, formals_scoped, formals_awaited, task_scoped, task_more, task_waits, in_frame, in_loop, in_task, task_frame, task_begins}
+use Rattle.aud_check_bodies.proofs.Scoping.Tables.{same, put_grows, object_kept_grows, parts_distinct, operations_grow, items_grow, operation_tables_grow, operation_body_grows, bodies_grow, seen, further, region_grows, named_grows, unit_grows, task_grows, kept_grows, entries_grow, entries_units, entries_tasks, entries_numbered, Numbered, InPlan, declared_tables, first_in_plan, second_in_plan, named_table, kept_in_plan, entered_table, statement_grows, statements_grow, accepts_grow, alternative_grows, alternatives_grow, otherwise_grows, arms_grow, others_grow, body_grows, handlers_grow, entered_grows, declaration_grows, declarations_grow}
+use Rattle.aud_check_bodies.proofs.Scoping.Entries.{of_task, of_body, of_found, bodies_scope, in_operations, in_items, in_operation, in_bodies, in_operation_of, operations_counted, barrier_kept_units, operation_body_counted, in_statement, in_accept, in_doing, in_alternative, in_alternatives, in_otherwise, in_arms, in_statements, in_others, in_body, in_handlers, in_entered, in_declaration, in_declarations, statement_counted, accept_is_counted, alternative_counted, alternatives_counted, others_counted, arms_counted, statements_counted, declaration_counted, declarations_counted, Ready, first_ready, second_ready}
+use Rattle.aud_check_bodies.proofs.Scoping.Elaborations.{Elaborates, one_created, elaborates_append, part_elaborates, AllCreated, none_created, created_append, created_with, part_created, with_activation_elaborates, with_activation_creates}
+use Rattle.aud_check_bodies.proofs.Scoping.Units.{no_fault, found_unit, found_object, none_waits, no_parts_wait, Waits, ObjectWaits, Waits_in, IsUnitOf, EachIs, Stay, IsUnit, Units, Barred, barred_push, none_between, units_join, fits_grown, body_grown, units_put, InPart, part_begins, part_ends, part_goes_on, part_with_task, part_with_object, part_with_body, part_without, part_with_bodies, each_with_body}
+use Rattle.aud_check_bodies.proofs.Scoping.Alike.{own_frame, its_frame, parts_more}
+use Rattle.aud_check_bodies.proofs.Scoping.Operations.{PartsAre, parts_grown, parts_there, part_in_is}
+use Rattle.aud_check_bodies.proofs.Scoping.Objects as of_objects
+use Rattle.aud_check_bodies.proofs.Scoping.Objects.{Declaring, none_declared, operations_declared, items_declared, body_frames, both_true, fine_if, conform_length, awaited_is, common, each_same, barrier_barred}
+use Rattle.aud_check_bodies.proofs.Scoping.Single.{call_scoped, assign_scoped, entry_call_scoped, selected_scoped, delay_scoped, form_scoped, body_with_scoped, IsStatement, AcceptScoped, AlternativeScoped, ArmScoped, HandlerScoped, alternatives_scoped, before_scoped, part_scoped, arms_then_scoped, handlers_of_scoped, choices_there, raise_scoped}
 
 -- behind its declarations a body has all that its table names
 fits_table : (known : Known) (scope : Scope) (full : Elaborated) (n : Place) → InBody known scope full n → full.cells ≤ (names.innermost n).cells → Fits (when true known) (scope ++ all_of_table (regions.shown_names (names.innermost n).symbols) ∷ []) n
@@ -65,7 +83,8 @@ one_widens (plain.exception first others) n t = omega (arith, exceptions_cells (
 one_widens (plain.procedure at i fs ds b) n t = omega (arith, procedure_cells i (length t.units) (names.innermost n))
 one_widens (plain.task at is_type i x) n t = task_more is_type i (length t.tasks) (length t.units) (names.innermost n)
 one_widens (plain.task_body at i ds b) n t = omega arith
-one_widens (plain.protected at i operations hidden last) n t = omega arith
+one_widens (plain.protected at i operations hidden last) n t =
+    either (λ (z : Region). (names.innermost n).cells ≤ z.cells) (names.is_declared i.name (names.innermost n).symbols) (names.innermost n) (objects.awaiting_object i (length t.objects) (d.with_symbol i.name (Protected (length t.objects)) (names.innermost n))) (omega arith) (omega arith)
 one_widens (plain.protected_body at i inner last) n t = omega arith
 
 declarations_widen : (xs : plain.Declarations) (n : Place) (t : Tables) → (names.innermost n).cells ≤ (names.innermost (s.checked_declarations xs n t).made.place).cells
@@ -116,25 +135,25 @@ module _ (plan : Plan) (entries : List Entry) where
   -- of declarations: at a place of a part that is entered in these frames, and whose frame has all this behind it
   DeclarationsFine : plain.Declarations → Place → Tables → Scope → Elaborated → ℕ → Type 0
   DeclarationsFine x n t outer full base =
-      InBody (seen plan entries t) outer full n → InPart plan entries base (outer ++ full ∷ []) (names.innermost n).awaited t → (names.innermost (s.checked_declarations x n t).made.place).cells ≤ full.cells
+      InBody (seen plan entries t) outer full n → InPart plan entries base (outer ++ full ∷ []) (waits_in (names.innermost n)) t → (names.innermost (s.checked_declarations x n t).made.place).cells ≤ full.cells
       → InPlan plan t (s.checked_declarations x n t).tables → Ready entries t (in_declarations x n t (outer ++ full ∷ [])) → (s.checked_declarations x n t).faults ≡ []
       → DeclaredScoped (seen plan entries (s.checked_declarations x n t).tables) outer full n (s.checked_declarations x n t).made
-      × InPart plan entries base (outer ++ full ∷ []) (names.innermost (s.checked_declarations x n t).made.place).awaited (s.checked_declarations x n t).tables
+      × InPart plan entries base (outer ++ full ∷ []) (waits_in (names.innermost (s.checked_declarations x n t).made.place)) (s.checked_declarations x n t).tables
       × Stay base t (s.checked_declarations x n t).tables
+      × (Barred plan entries t → Barred plan entries (s.checked_declarations x n t).tables)
 
   DeclarationFine : plain.Declaration → Place → Tables → Scope → Elaborated → ℕ → Type 0
   DeclarationFine x n t outer full base =
-      InBody (seen plan entries t) outer full n → InPart plan entries base (outer ++ full ∷ []) (names.innermost n).awaited t → (names.innermost (s.checked_declaration x n t).made.place).cells ≤ full.cells
+      InBody (seen plan entries t) outer full n → InPart plan entries base (outer ++ full ∷ []) (waits_in (names.innermost n)) t → (names.innermost (s.checked_declaration x n t).made.place).cells ≤ full.cells
       → InPlan plan t (s.checked_declaration x n t).tables → Ready entries t (in_declaration x n t (outer ++ full ∷ [])) → (s.checked_declaration x n t).faults ≡ []
       → DeclaredScoped (seen plan entries (s.checked_declaration x n t).tables) outer full n (s.checked_declaration x n t).made
-      × InPart plan entries base (outer ++ full ∷ []) (names.innermost (s.checked_declaration x n t).made.place).awaited (s.checked_declaration x n t).tables
+      × InPart plan entries base (outer ++ full ∷ []) (waits_in (names.innermost (s.checked_declaration x n t).made.place)) (s.checked_declaration x n t).tables
       × Stay base t (s.checked_declaration x n t).tables
+      × (Barred plan entries t → Barred plan entries (s.checked_declaration x n t).tables)
 
   assign_fine : (x : plain.Name) (value : plain.Expression) (around : Around) (n : Place) (t : Tables) (scope : Scope) → StatementFine (plain.assign x value) around n t scope
   unfolding StatementFine
-  assign_fine x value around n t scope = λ fits p r q.
-      let sees = regions_see (seen plan entries t) scope n fits.regions in
-      (assigned_scoped (seen plan entries t) scope (assignments.target_of x n).entity (resolution.name_ident x).at (e.checked_expression value n).typed (denoting_scoped (seen plan entries t) scope n sees x _ (arguments_scoped (seen plan entries t) scope n sees x)) (expression_scoped (seen plan entries t) scope n sees value), none_between plan entries t)
+  assign_fine x value around n t scope = λ fits p r q. (assign_scoped plan entries x value n t scope (regions_see (seen plan entries t) scope n fits.regions), none_between plan entries t)
 
   call_fine : (x : plain.Name) (around : Around) (n : Place) (t : Tables) (scope : Scope) → StatementFine (plain.call x) around n t scope
   unfolding StatementFine
@@ -203,7 +222,7 @@ module _ (plan : Plan) (entries : List Entry) where
       let grown = statements_grow ss (s.labelled true label around) place tables in
       let entered : table plan (length t.regions) ≡ shown = entered_table plan shown t o.tables grown p in
       let fit = fits_table (seen plan entries t) scope none_yet place (in_loop (seen plan entries t) scope none_yet i n refl fits) (omega arith) in
-      let body = f place tables (scope ++ all_of_table shown ∷ []) fit (second_in_plan plan t tables o.tables (region_grows shown t) p) (record { even = r.even; long = r.long; each = r.each }) q1 in
+      let body = f place tables (scope ++ all_of_table shown ∷ []) fit (second_in_plan plan t tables o.tables (region_grows shown t) p) (record { even = r.even; even_entries = r.even_entries; long = r.long; each = r.each }) q1 in
       let all : (cells_of (table plan (length t.regions)) ≡ 1) × StatementScoped plan entries (s.sequence_of o.made) (scope ++ all_of_table (table plan (length t.regions)) ∷ []) =
       subst (λ z. (cells_of z ≡ 1) × StatementScoped plan entries (s.sequence_of o.made) (scope ++ all_of_table z ∷ [])) (sym entered) (refl, body.0) in
       (((bound_of_scoped (seen plan entries t) scope inner sees low, bound_of_scoped (seen plan entries t) scope inner sees high, all.0, all.1), refl), body.1)
@@ -215,7 +234,7 @@ module _ (plan : Plan) (entries : List Entry) where
   return_fine : (at : Pos) (x : plain.MaybeExpression) (around : Around) (n : Place) (t : Tables) (scope : Scope) → StatementFine (plain.return at x) around n t scope
   unfolding StatementFine
   return_fine at plain.no_expression around n t scope = λ fits p r q. ((tt, refl), none_between plan entries t)
-  return_fine at (plain.an_expression x) around n t scope = λ fits p r q. ((tt, refl), none_between plan entries t)
+  return_fine at (plain.an_expression x) around n t scope = λ fits p r q. ((given_scoped (seen plan entries t) scope n (regions_see (seen plan entries t) scope n fits.regions) x (s.returned_subtype around.leaves), refl), none_between plan entries t)
 
   raise_fine : (at : Pos) (name : Option Ident) (around : Around) (n : Place) (t : Tables) (scope : Scope) → StatementFine (plain.raise at name) around n t scope
   unfolding StatementFine
@@ -304,7 +323,7 @@ module _ (plan : Plan) (entries : List Entry) where
   -- a body whose region is entered
 
   entering_fine : (of_task : Bool) (ds : plain.Declarations) (b : plain.Body) (around : Around) (n : Place) (t : Tables) (outer : Scope) → ((full : Elaborated) (base : ℕ) → DeclarationsFine ds n (region_kept t) outer full base) → ((m : Place) (u : Tables) (inner : Scope) → BodyFine b around m u inner)
-      → ((full : Elaborated) → InBody (seen plan entries t) outer full n) → (names.innermost n).awaited ≡ [] → InPlan plan t (s.entered_body of_task ds b around n t).tables → Ready entries t (in_entered ds b around n t outer) → (s.entered_body of_task ds b around n t).faults ≡ []
+      → ((full : Elaborated) → InBody (seen plan entries t) outer full n) → waits_in (names.innermost n) ≡ no_waiting → InPlan plan t (s.entered_body of_task ds b around n t).tables → Ready entries t (in_entered ds b around n t outer) → (s.entered_body of_task ds b around n t).faults ≡ []
       → IsFine t (s.entered_body of_task ds b around n t).tables (BodyScoped plan entries (s.entered_body of_task ds b around n t).made (elaborated (names.innermost n)) (table plan (length t.regions)) outer)
   unfolding DeclarationsFine BodyFine
   entering_fine of_task ds b around n t outer f g inside begins p r q =
@@ -315,7 +334,7 @@ module _ (plan : Plan) (entries : List Entry) where
       let shown = regions.shown_names region.symbols in
       let entry : Tables = declared_tables o t in
       let last = s.checked_body b around m entry in
-      let waiting = tasks.without_bodies region.awaited in
+      let waiting = tasks.without_bodies region.awaited ++ objects.without_object_bodies region.objects in
       let parts = both_none (o.faults ++ waiting) (last.faults ++ []) q in
       let heads = both_none o.faults waiting parts.0 in
       let g0 = declarations_grow ds n (region_kept t) in
@@ -327,9 +346,9 @@ module _ (plan : Plan) (entries : List Entry) where
       let p0 = first_in_plan plan t entry last.tables g2 p in
       let p1 = second_in_plan plan t entry last.tables g1 p in
       let front = first_ready entries t e0 e1 r in
-      let r0 : Ready entries (region_kept t) e0 = record { even = front.even; long = front.long; each = front.each } in
+      let r0 : Ready entries (region_kept t) e0 = record { even = front.even; even_entries = front.even_entries; long = front.long; each = front.each } in
       let r1 = second_ready entries t entry e0 e1 g1 (declarations_counted ds n (region_kept t) inner) r in
-      let part = part_begins plan entries inner (region_kept t) (names.innermost n).awaited begins in
+      let part = part_begins plan entries inner (region_kept t) (waits_in (names.innermost n)) begins in
       let declared = f full (length t.units) (body_grown plan entries t (region_kept t) outer full n (kept_grows t) (inside full)) part (omega arith) (kept_in_plan plan shown t o.tables p0) r0 heads.0 in
       let scoped = declared.0 in
       let fit : Fits (seen plan entries entry) inner m = body_fits (seen plan entries entry) outer full m scoped.0 (omega arith) in
@@ -342,7 +361,7 @@ module _ (plan : Plan) (entries : List Entry) where
         subst (λ z. BodyScoped plan entries (s.body_with xs b last.made) (elaborated (names.innermost n)) z outer) (sym named)
             (body_with_scoped plan entries xs b last.made (elaborated (names.innermost n)) shown outer elaborates.0 (elaborates.1 ∙ all) (subst (λ z. AllCreatedScoped plan entries (tree.part_of xs) z) all created)
             (subst (λ z. StatementScoped plan entries last.made.statements z) all stated.0.0) (subst (λ z. HandlersScoped plan entries last.made.handlers z) all stated.0.1)),
-        units_join plan entries t entry last.tables (part_ends plan entries inner t entry region.awaited (none_waits region.awaited heads.1) declared.1 declared.2) stated.1,
+        units_join plan entries t entry last.tables (part_ends plan entries t entry (waits_in region) region.parts (none_waits region heads.1) declared.1.0 declared.2 declared.3) stated.1,
       )
 
   block_fine : (label : Option Ident) (at : Pos) (declare : Bool) (ds : plain.Declarations) (b : plain.Body) (around : Around) (n : Place) (t : Tables) (scope : Scope)
@@ -361,7 +380,7 @@ module _ (plan : Plan) (entries : List Entry) where
   created_anywhere t u scope xs h = created_with (seen plan entries t) u.profiles scope xs h
 
   come_scoped : (t : Tables) (outer : Scope) (full : Elaborated) (name : List ℕ) (r : Region) → RegionScoped (seen plan entries t) outer full r → RegionScoped (seen plan entries t) outer full (names.body_come name r)
-  come_scoped t outer full name r h = record { level = h.level; symbols = h.symbols; named = h.named; celled = h.celled; entries = h.entries }
+  come_scoped t outer full name r h = record { level = h.level; symbols = h.symbols; named = h.named; celled = h.celled; entries = h.entries; parts = h.parts }
 
   joined_fine : (x : plain.Declaration) (xs : plain.Declarations) (n : Place) (t : Tables) (outer : Scope) (full : Elaborated) (base : ℕ)
       → ((m : Place) (u : Tables) → DeclarationFine x m u outer full base) → ((m : Place) (u : Tables) → DeclarationsFine xs m u outer full base) → DeclarationsFine (plain.more_declarations x xs) n t outer full base
@@ -386,37 +405,38 @@ module _ (plan : Plan) (entries : List Entry) where
         ),
         two.1,
         λ k lt. two.2 k lt ∙ one.2 k lt,
+        λ b. two.3 (one.3 b),
       )
 
   object_fine : (first : Ident) (others : List Ident) (mark : Ident) (initial : plain.MaybeExpression) (n : Place) (t : Tables) (outer : Scope) (full : Elaborated) (base : ℕ) → DeclarationFine (plain.object first others mark initial) n t outer full base
   unfolding DeclarationFine
   object_fine first others mark initial n t outer full base = λ inside part enough p r q.
       let more = objects_more (first ∷ others) first.at mark initial false n in
-      let stays = part_goes_on plan entries base (outer ++ full ∷ []) (names.innermost n).awaited _ t t (objects_awaited (first ∷ others) first.at mark initial false n) (none_between plan entries t) part in
-      (objects_scoped (seen plan entries t) outer full first others first.at mark initial false n q (omega (arith, more, enough)) inside, stays.0, stays.1)
+      let stays = part_goes_on plan entries base (outer ++ full ∷ []) (waits_in (names.innermost n)) _ t t (objects_awaited (first ∷ others) first.at mark initial false n) (same t) (none_between plan entries t) part in
+      (objects_scoped (seen plan entries t) outer full first others first.at mark initial false n q (omega (arith, more, enough)) inside, stays.0, stays.1, λ b. b)
 
   constant_fine : (first : Ident) (others : List Ident) (mark : Ident) (value : plain.Expression) (n : Place) (t : Tables) (outer : Scope) (full : Elaborated) (base : ℕ) → DeclarationFine (plain.constant first others mark value) n t outer full base
   unfolding DeclarationFine
   constant_fine first others mark value n t outer full base = λ inside part enough p r q.
       let initial = plain.an_expression value in
       let more = objects_more (first ∷ others) first.at mark initial true n in
-      let stays = part_goes_on plan entries base (outer ++ full ∷ []) (names.innermost n).awaited _ t t (objects_awaited (first ∷ others) first.at mark initial true n) (none_between plan entries t) part in
-      (objects_scoped (seen plan entries t) outer full first others first.at mark initial true n q (omega (arith, more, enough)) inside, stays.0, stays.1)
+      let stays = part_goes_on plan entries base (outer ++ full ∷ []) (waits_in (names.innermost n)) _ t t (objects_awaited (first ∷ others) first.at mark initial true n) (same t) (none_between plan entries t) part in
+      (objects_scoped (seen plan entries t) outer full first others first.at mark initial true n q (omega (arith, more, enough)) inside, stays.0, stays.1, λ b. b)
 
   array_fine : (first : Ident) (others : List Ident) (low high : Bound) (mark : Ident) (n : Place) (t : Tables) (outer : Scope) (full : Elaborated) (base : ℕ) → DeclarationFine (plain.array first others low high mark) n t outer full base
   unfolding DeclarationFine
   array_fine first others low high mark n t outer full base = λ inside part enough p r q.
       let more = arrays_more (first ∷ others) first.at low high mark n in
-      let stays = part_goes_on plan entries base (outer ++ full ∷ []) (names.innermost n).awaited _ t t (arrays_awaited (first ∷ others) first.at low high mark n) (none_between plan entries t) part in
-      (arrays_scoped (seen plan entries t) outer full (first ∷ others) first.at low high mark n q (omega (arith, more, enough)) inside, stays.0, stays.1)
+      let stays = part_goes_on plan entries base (outer ++ full ∷ []) (waits_in (names.innermost n)) _ t t (arrays_awaited (first ∷ others) first.at low high mark n) (same t) (none_between plan entries t) part in
+      (arrays_scoped (seen plan entries t) outer full (first ∷ others) first.at low high mark n q (omega (arith, more, enough)) inside, stays.0, stays.1, λ b. b)
 
   exception_fine : (first : Ident) (others : List Ident) (n : Place) (t : Tables) (outer : Scope) (full : Elaborated) (base : ℕ) → DeclarationFine (plain.exception first others) n t outer full base
   unfolding DeclarationFine
   exception_fine first others n t outer full base = λ inside part enough p r q.
       let u = (d.checked_exceptions (first ∷ others) n t).tables in
-      let same : Units plan entries t u = (omega arith, λ k after before. absurd (omega (arith, after, before)), λ k lt. refl) in
-      let stays = part_goes_on plan entries base (outer ++ full ∷ []) (names.innermost n).awaited _ t u (exceptions_awaited (first ∷ others) (d.exceptions_in n t.exceptions)) same part in
-      (exceptions_scoped (seen plan entries t) outer full (first ∷ others) n t q p.exceptions inside, stays.0, stays.1)
+      let none : Units plan entries t u = (omega arith, λ k after before. absurd (omega (arith, after, before)), λ k lt. refl, λ b. b) in
+      let stays = part_goes_on plan entries base (outer ++ full ∷ []) (waits_in (names.innermost n)) _ t u (exceptions_awaited (first ∷ others) (d.exceptions_in n t.exceptions)) (declaration_grows (plain.exception first others) n t) none part in
+      (exceptions_scoped (seen plan entries t) outer full (first ∷ others) n t q p.exceptions inside, stays.0, stays.1, λ b. b)
 
   procedure_fine : (at : Pos) (i : Ident) (fs : List plain.Formal) (ds : plain.Declarations) (b : plain.Body) (n : Place) (t : Tables) (outer : Scope) (full : Elaborated) (base : ℕ)
       → ((m : Place) (u : Tables) (scope : Scope) (all : Elaborated) (first : ℕ) → DeclarationsFine ds m u scope all first) → ((within : Around) (m : Place) (u : Tables) (inner : Scope) → BodyFine b within m u inner) → DeclarationFine (plain.procedure at i fs ds b) n t outer full base
@@ -458,17 +478,28 @@ module _ (plan : Plan) (entries : List Entry) where
       let within : (all : Elaborated) → InBody (seen plan entries kept) scope all inner = λ all. record { innermost = (formed all).0; others = λ c e1 more. regions_more (when c (seen plan entries kept)) scope e1 here.regions (around c) } in
       let ready = second_ready entries t kept (own ∷ []) rest g0 (length_push t.units no_body) r in
       let nothing_waits = formals_awaited (Some i) fs (names.body_frame here) here.regions in
-      let body = entering_fine false ds b nothing_around inner kept scope (f inner (region_kept kept) scope) (g nothing_around) within nothing_waits (record { regions = p.regions; exceptions = p.exceptions; entries = p.entries; tasks = p.tasks }) ready stated.0 in
+      let body = entering_fine false ds b nothing_around inner kept scope (f inner (region_kept kept) scope) (g nothing_around) within nothing_waits (record { regions = p.regions; exceptions = p.exceptions; objects = p.objects; entries = p.entries; tasks = p.tasks }) ready stated.0 in
       let whole : IsUnit plan entries unit.made number =
       subst (λ z. UnitScoped plan entries (tree.unit_plan unit.made) unit.made.body z) (sym first_entry) ((formed full).0.level, subst (λ z. BodyScoped plan entries o.made z (table plan (length t.regions)) scope) begun body.0) in
-      let stays = part_goes_on plan entries base scope before.awaited (names.innermost here).awaited t (with_unit number unit.made o.tables) (procedure_awaited i number before) (units_put plan entries formals.profile t o.tables unit.made whole body.1) part in
-      ((body_grown plan entries kept o.tables outer full here g1 behind_name, omega (arith, same_cells), ap (λ z. outer ++ z ∷ []) (sym same_frame), none_created (seen plan entries o.tables) scope), stays.0, stays.1)
+      let stays = part_goes_on plan entries base scope (waits_in before) (waits_in (names.innermost here)) t (with_unit number unit.made o.tables) (procedure_awaited i number before) (put_grows number unit.made t o.tables (further {u = kept} g0 g1)) (units_put plan entries formals.profile t o.tables unit.made whole body.1) part in
+      ((body_grown plan entries kept o.tables outer full here g1 behind_name, omega (arith, same_cells), ap (λ z. outer ++ z ∷ []) (sym same_frame), none_created (seen plan entries o.tables) scope), stays.0, stays.1, λ z. body.1.3 z)
 
   -- tasks
 
-  entries_in_plan : (t : Tables) (xs : List EntryName) (u : Tables) → length u.entries ≤ length plan.entries → Numbered xs u → EntriesThere (seen plan entries t) xs
+  entries_in_plan : (t : Tables) (xs : List EntryName) (u : Tables) → ((n : ℕ) → n < length u.entries → n < length plan.entries) → Numbered xs u → EntriesThere (seen plan entries t) xs
   entries_in_plan t [] u e h = tt
-  entries_in_plan t (x ∷ xs) u e h = (omega (arith, e, h.0), entries_in_plan t xs u e h.1)
+  entries_in_plan t (x ∷ xs) u e h = (e x.number h.0, entries_in_plan t xs u e h.1)
+
+  -- barriers of tasks' entries are True
+
+  one_entry_barred : (number : ℕ) (x : plain.EntryDeclaration) (outer : List Region) (es : declared.Entries) → Barred plan entries es.tables → Barred plan entries (declared.one_entry number x outer es).tables
+  one_entry_barred number x outer es h =
+      let made = declared.entry_added number x.name.name (declared.entry_formals x es.own outer).profile es in
+      either (λ (z : declared.Entries). Barred plan entries z.tables) (names.is_declared x.name.name es.own.symbols) es made h (barred_push plan entries es.tables made.tables (tree.task_entry x.name.name) refl refl h)
+
+  entries_barred : (number : ℕ) (xs : List plain.EntryDeclaration) (outer : List Region) (es : declared.Entries) → Barred plan entries es.tables → Barred plan entries (declared.declared_entries number xs outer es).tables
+  entries_barred number [] outer es h = h
+  entries_barred number (x ∷ xs) outer es h = entries_barred number xs outer (declared.one_entry number x outer es) (one_entry_barred number x outer es h)
 
   task_fine : (at : Pos) (is_type : Bool) (i : Ident) (x : Option plain.TaskDefinition) (n : Place) (t : Tables) (outer : Scope) (full : Elaborated) (base : ℕ) → DeclarationFine (plain.task at is_type i x) n t outer full base
   unfolding DeclarationFine
@@ -503,12 +534,12 @@ module _ (plan : Plan) (entries : List Entry) where
       } in
       let grown = further {u = es.tables} (entries_grow number xs here.regions start) (task_grows numbers es.tables) in
       let known_before = body_grown plan entries t u outer full n grown inside in
-      let all_there : EntriesThere (seen plan entries u) es.names = entries_in_plan t es.names es.tables p.entries (entries_numbered number xs here.regions start tt) in
+      let all_there : EntriesThere (seen plan entries u) es.names = entries_in_plan t es.names es.tables (λ k lt. (p.entries k lt).0) (entries_numbered number xs here.regions start tt) in
       let scoped = task_scoped (seen plan entries u) outer full at is_type i number unit es.names n begins all_there once known_before in
       let a : Awaited = record { name = i.name; task_type = number; unit = unit; at = i.at } in
-      let waits : (tasks.with_task is_type i number unit before).awaited ≡ before.awaited ++ a ∷ [] = task_waits is_type i number unit before once in
-      let stays = part_with_task plan entries base scope before.awaited a t u (ap (λ l. l ++ no_body ∷ []) same_units) refl there entry part in
-      (scoped, subst (λ l. InPart plan entries base scope l u) (sym waits) stays.0, stays.1)
+      let waits : waits_in (tasks.with_task is_type i number unit before) ≡ record (waits_in before) { tasks = before.awaited ++ a ∷ [] } = task_waits is_type i number unit before once in
+      let stays = part_with_task plan entries base scope (waits_in before) a t u grown (ap (λ l. l ++ no_body ∷ []) same_units) refl there entry part in
+      (scoped, subst (λ l. InPart plan entries base scope l u) (sym waits) stays.0, stays.1, λ z. entries_barred number xs here.regions start z)
 
   task_body_fine : (at : Pos) (i : Ident) (ds : plain.Declarations) (b : plain.Body) (n : Place) (t : Tables) (outer : Scope) (full : Elaborated) (base : ℕ)
       → ((m : Place) (u : Tables) (scope : Scope) (all : Elaborated) (first : ℕ) → DeclarationsFine ds m u scope all first) → ((within : Around) (m : Place) (u : Tables) (inner : Scope) → BodyFine b within m u inner) → DeclarationFine (plain.task_body at i ds b) n t outer full base
@@ -533,11 +564,11 @@ module _ (plan : Plan) (entries : List Entry) where
       front : Option Awaited → List Entry
       front found = of_body found scope ++ in_entered ds b task_around (inner found) (tasks.body_tables found t) scope
 
-      by : (found : Option Awaited) → tasks.task_awaited i n ≡ found → InBody (seen plan entries t) outer full n → InPart plan entries base scope (names.innermost n).awaited t → (names.innermost n).cells ≤ full.cells → InPlan plan t (whole found).tables → Ready entries t (front found) → (whole found).faults ≡ []
-          → DeclaredScoped (seen plan entries (whole found).tables) outer full n (whole found).made × InPart plan entries base scope (names.innermost here).awaited (whole found).tables × Stay base t (whole found).tables
+      by : (found : Option Awaited) → tasks.task_awaited i n ≡ found → InBody (seen plan entries t) outer full n → InPart plan entries base scope (waits_in (names.innermost n)) t → (names.innermost n).cells ≤ full.cells → InPlan plan t (whole found).tables → Ready entries t (front found) → (whole found).faults ≡ []
+          → DeclaredScoped (seen plan entries (whole found).tables) outer full n (whole found).made × InPart plan entries base scope (waits_in (names.innermost here)) (whole found).tables × Stay base t (whole found).tables × (Barred plan entries t → Barred plan entries (whole found).tables)
       by None e inside part enough p r q = absurd (no_fault _ _ q)
       by (Some x) e inside part enough p r q =
-          let own = found_unit (Waits plan entries base scope t) i.name (names.innermost n).awaited x e part.2 in
+          let own = found_unit (Waits plan entries base scope t) i.name (names.innermost n).awaited x e part.1 in
           let place : Place = inner (Some x) in
           let made = checked place t in
           let o = s.entered_body true ds b task_around place t in
@@ -546,13 +577,13 @@ module _ (plan : Plan) (entries : List Entry) where
           let around : (c : Bool) → RegionsScoped (when c (seen plan entries t)) scope here.regions = λ c. body_regions (seen plan entries t) outer full c here full behind enough (λ z. omega arith) in
           let level : (names.innermost here).level + 1 ≡ length scope = omega (arith, behind.innermost.level, length_push outer full) in
           let within : (all : Elaborated) → InBody (seen plan entries t) scope all place = λ all. in_task (seen plan entries t) scope all i.name x.task_type here level behind.innermost.entries around in
-          let body = entering_fine true ds b task_around place t scope (f place (region_kept t) scope) (g task_around) within (task_begins i.name x.task_type here) (record { regions = p.regions; exceptions = p.exceptions; entries = p.entries; tasks = p.tasks }) r stated.0 in
+          let body = entering_fine true ds b task_around place t scope (f place (region_kept t) scope) (g task_around) within (task_begins i.name x.task_type here) (record { regions = p.regions; exceptions = p.exceptions; objects = p.objects; entries = p.entries; tasks = p.tasks }) r stated.0 in
           let begun = task_frame (seen plan entries t) scope full i.name x.task_type here level behind.innermost.entries in
           let leveled : (names.innermost place).level ≡ length scope = (within full).innermost.level in
           let unit_fine : IsUnit plan entries made.made x.unit =
           subst (λ z. UnitScoped plan entries (tree.unit_plan made.made) made.made.body z) (sym own.3) (leveled, subst (λ z. BodyScoped plan entries o.made z (table plan (length t.regions)) scope) begun body.0) in
-          let stays = part_with_body plan entries base scope i.name (names.innermost n).awaited x t o.tables made.made e body.1 unit_fine part in
-          ((body_grown plan entries t o.tables outer full here (entered_grows true ds b task_around place t) behind, omega arith, refl, none_created (seen plan entries o.tables) scope), stays.0, stays.1)
+          let stays = part_with_body plan entries base scope i.name (waits_in (names.innermost n)) x t o.tables made.made e (put_grows x.unit made.made t o.tables (entered_grows true ds b task_around place t)) body.1 unit_fine part in
+          ((body_grown plan entries t o.tables outer full here (entered_grows true ds b task_around place t) behind, omega arith, refl, none_created (seen plan entries o.tables) scope), stays.0, stays.1, λ z. body.1.3 z)
 
   null_fine : (at : Pos) (around : Around) (n : Place) (t : Tables) (scope : Scope) → StatementFine (plain.null at) around n t scope
   unfolding StatementFine
@@ -572,7 +603,7 @@ module _ (plan : Plan) (entries : List Entry) where
 
   no_declarations_fine : (n : Place) (t : Tables) (outer : Scope) (full : Elaborated) (base : ℕ) → DeclarationsFine plain.no_declarations n t outer full base
   unfolding DeclarationsFine
-  no_declarations_fine n t outer full base = λ inside part enough p r q. ((inside, omega arith, refl, none_created (seen plan entries t) (outer ++ full ∷ [])), part, λ k lt. refl)
+  no_declarations_fine n t outer full base = λ inside part enough p r q. ((inside, omega arith, refl, none_created (seen plan entries t) (outer ++ full ∷ [])), part, λ k lt. refl, λ b. b)
 
   AcceptFine : plain.Accept → Around → Place → Tables → Scope → Type 0
   AcceptFine x around n t scope =
@@ -647,7 +678,7 @@ module _ (plan : Plan) (entries : List Entry) where
       let inside : InBody known scope none_yet place = record { innermost = h; others = λ c e1 more. regions_more (when c known) scope e1 n.regions (regions_when known scope refl c n.regions fits.regions) } in
       let fit = fits_table known scope none_yet place inside (omega arith) in
       let inner : Scope = scope ++ all_of_table shown ∷ [] in
-      let body = f place tables inner fit (second_in_plan plan t tables o.tables (region_grows shown t) p) (record { even = r.even; long = r.long; each = r.each }) q1 in
+      let body = f place tables inner fit (second_in_plan plan t tables o.tables (region_grows shown t) p) (record { even = r.even; even_entries = r.even_entries; long = r.long; each = r.each }) q1 in
       let all : all_formals k ≡ all_of_table shown = sym e ∙ sym (all_elaborated known scope none_yet region h) in
       let doing : BodyScoped plan entries (s.body_with [] b o.made) (all_formals k) (table plan (length t.regions)) scope =
       subst (λ z. BodyScoped plan entries (s.body_with [] b o.made) (all_formals k) z scope) (sym entered) (body_with_scoped plan entries [] b o.made (all_formals k) shown scope tt (ap (λ z. scope ++ z ∷ []) all) tt body.0.0 body.0.1) in
@@ -766,13 +797,273 @@ module _ (plan : Plan) (entries : List Entry) where
   unfolding StatementFine
   requeue_fine at x with_abort around n t scope = λ fits p r q. ((tt, refl), none_between plan entries t)
 
+  -- protected objects
+
+  object_fine_with : (at : Pos) (i : Ident) (hidden : Option (List plain.PrivateItem)) (n : Place) (t : Tables) (outer : Scope) (full : Elaborated) (base : ℕ) (x : ObjectDeclared) → base ≤ length t.units → InBody (seen plan entries t) outer full n → InPart plan entries base (outer ++ full ∷ []) (waits_in (names.innermost n)) t
+      → Declaring plan entries base t n i.name (length t.objects) ((outer ++ full ∷ []) ++ elaborated x.own ∷ []) (outer ++ elaborated (names.innermost n) ∷ []) x → InPlan plan t (object_kept i.name x.entries x.tables) → AreDistinct x.entries → rules.declared_once i.name i.at (names.innermost n).symbols ≡ []
+      → DeclaredScoped (seen plan entries (object_kept i.name x.entries x.tables)) outer full n (objects.object_of_parts x at i (length t.objects) n).made
+      × InPart plan entries base (outer ++ full ∷ []) (waits_in (names.innermost (objects.object_of_parts x at i (length t.objects) n).made.place)) (object_kept i.name x.entries x.tables)
+      × Stay base t (object_kept i.name x.entries x.tables)
+      × (Barred plan entries t → Barred plan entries (object_kept i.name x.entries x.tables))
+  object_fine_with at i hidden n t outer full base x after inside part h p distinct once =
+      let before : Region = names.innermost n in
+      let number = length t.objects in
+      let u : Tables = object_kept i.name x.entries x.tables in
+      let scope : Scope = outer ++ full ∷ [] in
+      let level = before.level + 1 in
+      let qs = x.around.parts in
+      let o : AwaitedObject = record { name = i.name; object = number; at = i.at } in
+      let named : Region = d.with_symbol i.name (Protected number) before in
+      let new : Region = objects.with_object_parts qs (objects.awaiting_object i number named) in
+      let fresh : names.is_declared i.name before.symbols ≡ false = not_declared _ _ once in
+      let declared_as : objects.with_object i number before ≡ objects.awaiting_object i number named = rw fresh in
+      let last : objects.with_object_parts qs (objects.with_object i number before) ≡ new = ap (objects.with_object_parts qs) declared_as in
+      let kept = object_kept_grows i.name x.entries x.tables distinct in
+      let grown = further {u = x.tables} h.grows kept in
+      let later = body_grown plan entries t u outer full n grown inside in
+      let are : PartsAre plan entries base u (scope ++ elaborated x.own ∷ []) number qs = parts_grown plan entries base x.tables u (scope ++ elaborated x.own ∷ []) number qs kept h.are in
+      let own : RegionScoped (seen plan entries u) outer full named = symbol_scoped (seen plan entries u) outer full i.name (Protected number) before later.innermost in
+      let region : RegionScoped (seen plan entries u) outer full new = record {
+        level = own.level;
+        symbols = own.symbols;
+        named = own.named;
+        celled = own.celled;
+        entries = own.entries;
+        parts = λ c e more enough.
+            let reach : c ≡ true → AreAround (scope ++ elaborated x.own ∷ []) (outer ++ e ∷ []) = λ z. around_open scope (outer ++ e ∷ []) (elaborated x.own) (open_further outer full e (enough z)) in
+            both_parts (when c (seen plan entries u)) (outer ++ e ∷ []) before.parts qs (own.parts c e more enough) (parts_there plan entries base u (scope ++ elaborated x.own ∷ []) (outer ++ e ∷ []) c number qs reach h.its are);
+      } in
+      let statement : tree.Statement = tree.declare_object at number x.values in
+      let elaborates : Elaborates (seen plan entries u) (outer ++ elaborated before ∷ []) (statement ∷ []) (outer ++ elaborated new ∷ []) = ((omega (arith, p.objects, length_push x.tables.objects (record { name = i.name; entries = x.entries }), h.grows.objects), h.values), one_elaborated (seen plan entries u) outer full i.name (Protected number) before) in
+      let frame : elaborated x.own ≡ own_frame number qs = ap elaborated h.own ∙ its_frame number level Outside qs (named_objects.object_frame n) refl refl refl in
+      let stays = part_with_object plan entries base scope (waits_in before) o qs t u grown refl (omega (arith, h.grows.objects, length_push x.tables.objects (record { name = i.name; entries = x.entries }))) h.its
+      (subst (λ e. PartsAre plan entries base u (scope ++ e ∷ []) number qs) frame are) h.waits h.stays part in (
+        subst (λ z. DeclaredScoped (seen plan entries u) outer full n (record { place = names.in_region z n; elaborations = statement ∷ [] })) (sym last)
+            (others_stay (seen plan entries u) outer full n new (omega arith) later region, omega arith, elaborates, one_created (seen plan entries u) scope statement [] tt (none_created (seen plan entries u) scope)),
+        subst (λ z. InPart plan entries base scope (waits_in z) u) (sym last) stays.0,
+        stays.1,
+        λ z. h.barred z,
+      )
+    where
+      both_parts : (known : Known) (here : Scope) (ps rs : List ObjectPart) → PartsThere known here ps → PartsThere known here rs → PartsThere known here (ps ++ rs)
+      both_parts known here [] rs f g = g
+      both_parts known here (y ∷ ps) rs f g = (f.0, both_parts known here ps rs f.1 g)
+
   protected_fine : (at : Pos) (i : Ident) (operations : List plain.Operation) (hidden : Option (List plain.PrivateItem)) (last : Option Ident) (n : Place) (t : Tables) (outer : Scope) (full : Elaborated) (base : ℕ) → DeclarationFine (plain.protected at i operations hidden last) n t outer full base
   unfolding DeclarationFine
-  protected_fine at i operations hidden last n t outer full base = λ inside part enough p r q. ((inside, omega arith, refl, none_created (seen plan entries t) (outer ++ full ∷ [])), part, λ k lt. refl)
+  protected_fine at i operations hidden last n t outer full base = λ inside part enough p r q.
+      let number = length t.objects in
+      let none = objects.no_parts i.name n t in
+      let first = objects.declared_operations number operations n.regions none in
+      let x = objects.parts_declared i.name operations hidden n t in
+      let scope : Scope = outer ++ full ∷ [] in
+      let here : Scope = outer ++ elaborated (names.innermost n) ∷ [] in
+      let frames : Scope = scope ++ elaborated x.own ∷ [] in
+      let items = objects.hidden_items hidden in
+      let distinct = parts_distinct i.name operations hidden n t in
+      let kept = object_kept_grows i.name x.entries x.tables distinct in
+      let declared_in_plan = first_in_plan plan t x.tables (object_kept i.name x.entries x.tables) kept p in
+      let e1 = in_operations number operations n.regions none frames in
+      let e2 = in_items number items n.regions first frames in
+      let g1 = operations_grow number operations n.regions none in
+      let heads = both_none (rules.declared_once i.name i.at (names.innermost n).symbols ++ (objects.parts_faults i.name operations hidden n t ++ rules.right_name_at_end i.name last)) [] q in
+      let once = (both_none (rules.declared_once i.name i.at (names.innermost n).symbols) (objects.parts_faults i.name operations hidden n t ++ rules.right_name_at_end i.name last) heads.0).0 in
+      let one = operations_declared plan entries base t n i.name number frames here none operations part.0.0 (none_declared plan entries base t n i.name frames here) (first_ready entries t e1 e2 r) (first_in_plan plan t first.tables x.tables (items_grow number items n.regions first) declared_in_plan) in
+      let two = items_declared plan entries base t n i.name number frames outer full first items part.0.0 inside one (second_ready entries t first.tables e1 e2 g1 (operations_counted number operations n.regions none frames) r) declared_in_plan in
+      object_fine_with at i hidden n t outer full base x part.0.0 inside part two p distinct once
 
-  protected_body_fine : (at : Pos) (i : Ident) (inner : plain.OperationBodies) (last : Option Ident) (n : Place) (t : Tables) (outer : Scope) (full : Elaborated) (base : ℕ) → DeclarationFine (plain.protected_body at i inner last) n t outer full base
-  unfolding DeclarationFine
-  protected_body_fine at i inner last n t outer full base = λ inside part enough p r q. ((inside, omega arith, refl, none_created (seen plan entries t) (outer ++ full ∷ [])), part, λ k lt. refl)
+  -- bodies of operations, in the frames of their object
+
+  OperationFine : plain.OperationBody → BodyPlaces → List AwaitedPart → Tables → Scope → ℕ → Waiting → Type 0
+  OperationFine x o awaited t frames base w =
+      Fits (seen plan entries t) frames o.inside → Fits (seen plan entries t) frames o.in_function → PartsAre plan entries base t frames o.object o.parts → EachIs plan entries base (λ n. Waits_in w n ⊎ IsUnitOf n awaited) t
+      → InPlan plan t (s.checked_operation x o awaited t).tables → Ready entries t (in_operation x o awaited t frames) → (s.checked_operation x o awaited t).faults ≡ []
+      → EachIs plan entries base (λ n. Waits_in w n ⊎ IsUnitOf n (s.checked_operation x o awaited t).made) (s.checked_operation x o awaited t).tables
+      × Stay base t (s.checked_operation x o awaited t).tables
+      × (Barred plan entries t → Barred plan entries (s.checked_operation x o awaited t).tables)
+
+  BodiesFine : plain.OperationBodies → BodyPlaces → List AwaitedPart → Tables → Scope → ℕ → Waiting → Type 0
+  BodiesFine x o awaited t frames base w =
+      Fits (seen plan entries t) frames o.inside → Fits (seen plan entries t) frames o.in_function → PartsAre plan entries base t frames o.object o.parts → EachIs plan entries base (λ n. Waits_in w n ⊎ IsUnitOf n awaited) t
+      → InPlan plan t (s.checked_bodies x o awaited t).tables → Ready entries t (in_bodies x o awaited t frames) → (s.checked_bodies x o awaited t).faults ≡ []
+      → EachIs plan entries base (λ n. Waits_in w n ⊎ IsUnitOf n (s.checked_bodies x o awaited t).made) (s.checked_bodies x o awaited t).tables
+      × Stay base t (s.checked_bodies x o awaited t).tables
+      × (Barred plan entries t → Barred plan entries (s.checked_bodies x o awaited t).tables)
+
+  operation_of_fine : (head : Head) (at : Pos) (i : Ident) (fs : List plain.Formal) (ds : plain.Declarations) (b : plain.Body) (o : BodyPlaces) (awaited : List AwaitedPart) (t : Tables) (frames : Scope) (base : ℕ) (w : Waiting)
+      → ((m : Place) (u : Tables) (scope : Scope) (all : Elaborated) (first : ℕ) → DeclarationsFine ds m u scope all first) → ((within : Around) (m : Place) (u : Tables) (inner : Scope) → BodyFine b within m u inner)
+      → Fits (seen plan entries t) frames (operations.operation_place head o) → PartsAre plan entries base t frames o.object o.parts → EachIs plan entries base (λ n. Waits_in w n ⊎ IsUnitOf n awaited) t
+      → InPlan plan t (s.checked_operation_of head at i fs ds b o awaited t).tables → Ready entries t (in_operation_of head i fs ds b o awaited t frames) → (s.checked_operation_of head at i fs ds b o awaited t).faults ≡ []
+      → EachIs plan entries base (λ n. Waits_in w n ⊎ IsUnitOf n (s.checked_operation_of head at i fs ds b o awaited t).made) (s.checked_operation_of head at i fs ds b o awaited t).tables
+      × Stay base t (s.checked_operation_of head at i fs ds b o awaited t).tables
+      × (Barred plan entries t → Barred plan entries (s.checked_operation_of head at i fs ds b o awaited t).tables)
+  operation_of_fine head at i fs ds b o awaited t frames base w f g fits are each p r q = by (operations.part_awaited head i o awaited) refl p r q
+    where
+      here : Place
+      here = operations.operation_place head o
+
+      shape : operations.Shape
+      shape = operations.shape_of head i fs here
+
+      inner : Place
+      inner = names.place_in shape.region here.regions
+
+      around : Around
+      around = s.operation_around head i fs here
+
+      entry : Option PartKind → Tables
+      entry found = operations.operation_tables head found shape.region here t
+
+      checked : Place → Tables → Outcome tree.UnitBody
+      checked m u = s.checked_operation_unit head at i fs ds b here m u
+
+      last : Option PartKind → Tables
+      last found = with_unit (operations.operation_unit found t) (checked inner (entry found)).made (checked inner (entry found)).tables
+
+      faulty : Option PartKind → List Fault
+      faulty found = operations.operation_faults head found i fs here t ++ ((checked inner (entry found)).faults ++ [])
+
+      front : Option PartKind → List Entry
+      front found = of_found found frames ++ in_entered ds b around inner (entry found) frames
+
+      by : (found : Option PartKind) → operations.part_awaited head i o awaited ≡ found → InPlan plan t (last found) → Ready entries t (front found) → faulty found ≡ []
+          → EachIs plan entries base (λ n. Waits_in w n ⊎ IsUnitOf n (operations.still_awaited found awaited)) (last found) × Stay base t (last found) × (Barred plan entries t → Barred plan entries (last found))
+      by None e p r q =
+          let heads = both_none (operations.operation_faults head None i fs here t) ((checked inner (entry None)).faults ++ []) q in
+          let others = both_none (operations.shape_faults head i fs here) (rules.no_matching_body i.at ++ operations.barrier_faults head shape.region here) heads.0 in
+          absurd (no_fault _ _ others.1)
+      by (Some k) e p r q =
+          let kept : Tables = entry (Some k) in
+          let made = checked inner kept in
+          let own_body = s.entered_body false ds b around inner kept in
+          let heads = both_none (operations.operation_faults head (Some k) i fs here t) (made.faults ++ []) q in
+          let shaped = both_none (operations.shape_faults head i fs here) (operations.operation_matched (Some k) i.at shape.profile shape.returned t ++ operations.barrier_faults head shape.region here) heads.0 in
+          let matched = (both_none (operations.operation_matched (Some k) i.at shape.profile shape.returned t) (operations.barrier_faults head shape.region here) shaped.1).0 in
+          let formals_fine = (both_none (operations.head_formals head i fs here).faults (operations.result_faults head i shape.region here.regions) shaped.0).0 in
+          let stated = both_none own_body.faults (rules.right_name_at_end i.name (s.end_name b) ++ []) (both_none made.faults [] heads.1).0 in
+          let found = awaited_is plan entries base t frames head awaited (named_objects.part_in i.name o.object o.parts) k (part_in_is plan entries base t frames o.object i.name o.parts are) e in
+          let its = common plan entries base t frames head k found.1 found.0 in
+          let conforms = conform_length (operations.part_profile k t) shape.profile (both_true (rules.conform (operations.part_profile k t) shape.profile) (operations.same_result k shape.returned) (fine_if _ _ matched)).0 in
+          let g0 = operation_tables_grow head (Some k) shape.region here t in
+          let g1 = entered_grows false ds b around inner kept in
+          let same_units : kept.units ≡ t.units = barrier_kept_units (Some k) (operations.barrier_of head shape.region here) t in
+          let fits_later = fits_grown plan entries t kept frames here g0 fits in
+          let level : (names.innermost here).level + 1 ≡ length frames = fits.level in
+          let formed = λ (all : Elaborated). formals_scoped (seen plan entries kept) frames all (operations.hidden_own head i) fs (names.body_frame here) here.regions formals_fine (empty_scoped (seen plan entries kept) frames all _ level) in
+          let begun : elaborated shape.region ≡ all_formals (length shape.profile) = counted_frame shape.region.names shape.region.cells (length shape.profile) (formed none_yet).1 (formed none_yet).2 in
+          let within : (all : Elaborated) → InBody (seen plan entries kept) frames all inner = λ all. record {
+            innermost = (formed all).0;
+            others = λ c e1 more. regions_more (when c (seen plan entries kept)) frames e1 here.regions (regions_when (seen plan entries kept) frames refl c here.regions fits_later.regions);
+          } in
+          let nothing_waits = formals_awaited (operations.hidden_own head i) fs (names.body_frame here) here.regions in
+          let p1 = second_in_plan plan t kept (last (Some k)) g0 p in
+          let no_more : length kept.units ≡ length t.units + 0 = omega (arith, ap length same_units) in
+          let ready = second_ready entries t kept [] (in_entered ds b around inner kept frames) g0 no_more r in
+          let body = entering_fine false ds b around inner kept frames (f inner (region_kept kept) frames) (g around) within nothing_waits (record { regions = p1.regions; exceptions = p1.exceptions; objects = p1.objects; entries = p1.entries; tasks = p1.tasks }) ready stated.0 in
+          let unit = operations.part_unit k in
+          let whole : UnitScoped plan entries (tree.unit_plan made.made) made.made.body (entry_of entries unit) = (
+            (formed none_yet).0.level ∙ ap length (sym its.outer),
+            subst (λ z. BodyScoped plan entries own_body.made (all_formals z) (table plan (length kept.regions)) (entry_of entries unit).outer) (sym conforms ∙ its.formals)
+                (subst (λ z. BodyScoped plan entries own_body.made (all_formals (length shape.profile)) (table plan (length kept.regions)) z) (sym its.outer) (subst (λ z. BodyScoped plan entries own_body.made z (table plan (length kept.regions)) frames) begun body.0)),
+          ) in
+          let still = each_with_body plan entries base (Waits_in w) awaited unit kept own_body.tables made.made its.after (omega (arith, its.before, ap length same_units)) body.1 whole (each_same plan entries base (λ n. Waits_in w n ⊎ IsUnitOf n awaited) t kept same_units each) in
+          let barred = barrier_barred plan entries base t frames head k shape.region here fits.regions found.0 in (
+            still.0,
+            λ m lt. still.1 m lt ∙ ap (λ l. slice_index_or l m no_body) same_units,
+            λ z. body.1.3 (barred z),
+          )
+
+  entry_body_fine : (at : Pos) (i : Ident) (fs : List plain.Formal) (barrier : plain.Expression) (ds : plain.Declarations) (b : plain.Body) (o : BodyPlaces) (awaited : List AwaitedPart) (t : Tables) (frames : Scope) (base : ℕ) (w : Waiting)
+      → ((m : Place) (u : Tables) (scope : Scope) (all : Elaborated) (first : ℕ) → DeclarationsFine ds m u scope all first) → ((within : Around) (m : Place) (u : Tables) (inner : Scope) → BodyFine b within m u inner) → OperationFine (plain.entry_body at i fs barrier ds b) o awaited t frames base w
+  unfolding OperationFine
+  entry_body_fine at i fs barrier ds b o awaited t frames base w f g = λ inside in_function are each p r q. operation_of_fine (of_entry barrier) at i fs ds b o awaited t frames base w f g inside are each p r q
+
+  procedure_body_fine : (at : Pos) (i : Ident) (fs : List plain.Formal) (ds : plain.Declarations) (b : plain.Body) (o : BodyPlaces) (awaited : List AwaitedPart) (t : Tables) (frames : Scope) (base : ℕ) (w : Waiting)
+      → ((m : Place) (u : Tables) (scope : Scope) (all : Elaborated) (first : ℕ) → DeclarationsFine ds m u scope all first) → ((within : Around) (m : Place) (u : Tables) (inner : Scope) → BodyFine b within m u inner) → OperationFine (plain.procedure_body at i fs ds b) o awaited t frames base w
+  unfolding OperationFine
+  procedure_body_fine at i fs ds b o awaited t frames base w f g = λ inside in_function are each p r q. operation_of_fine operations.of_procedure at i fs ds b o awaited t frames base w f g inside are each p r q
+
+  function_body_fine : (at : Pos) (i : Ident) (fs : List plain.Formal) (mark : Ident) (ds : plain.Declarations) (b : plain.Body) (o : BodyPlaces) (awaited : List AwaitedPart) (t : Tables) (frames : Scope) (base : ℕ) (w : Waiting)
+      → ((m : Place) (u : Tables) (scope : Scope) (all : Elaborated) (first : ℕ) → DeclarationsFine ds m u scope all first) → ((within : Around) (m : Place) (u : Tables) (inner : Scope) → BodyFine b within m u inner) → OperationFine (plain.function_body at i fs mark ds b) o awaited t frames base w
+  unfolding OperationFine
+  function_body_fine at i fs mark ds b o awaited t frames base w f g = λ inside in_function are each p r q. operation_of_fine (of_function mark) at i fs ds b o awaited t frames base w f g in_function are each p r q
+
+  no_bodies_fine : (o : BodyPlaces) (awaited : List AwaitedPart) (t : Tables) (frames : Scope) (base : ℕ) (w : Waiting) → BodiesFine plain.no_bodies o awaited t frames base w
+  unfolding BodiesFine
+  no_bodies_fine o awaited t frames base w = λ inside in_function are each p r q. (each, λ k lt. refl, λ b. b)
+
+  more_bodies_fine : (x : plain.OperationBody) (xs : plain.OperationBodies) (o : BodyPlaces) (awaited : List AwaitedPart) (t : Tables) (frames : Scope) (base : ℕ) (w : Waiting)
+      → OperationFine x o awaited t frames base w → ((still : List AwaitedPart) (u : Tables) → BodiesFine xs o still u frames base w) → BodiesFine (plain.more_bodies x xs) o awaited t frames base w
+  unfolding OperationFine BodiesFine
+  more_bodies_fine x xs o awaited t frames base w f g = λ inside in_function are each p r q.
+      let first = s.checked_operation x o awaited t in
+      let second = s.checked_bodies xs o first.made first.tables in
+      let faults = both_none first.faults second.faults q in
+      let g1 = operation_body_grows x o awaited t in
+      let g2 = bodies_grow xs o first.made first.tables in
+      let e1 = in_operation x o awaited t frames in
+      let e2 = in_bodies xs o first.made first.tables frames in
+      let one = f inside in_function are each (first_in_plan plan t first.tables second.tables g2 p) (first_ready entries t e1 e2 r) faults.0 in
+      let two = g first.made first.tables (fits_grown plan entries t first.tables frames o.inside g1 inside) (fits_grown plan entries t first.tables frames o.in_function g1 in_function) (parts_grown plan entries base t first.tables frames o.object o.parts g1 are) one.0
+      (second_in_plan plan t first.tables second.tables g1 p) (second_ready entries t first.tables e1 e2 g1 (operation_body_counted x o awaited t frames) r) faults.1 in
+      (two.0, λ k lt. two.1 k lt ∙ one.1 k lt, λ b. two.2 (one.2 b))
+
+  object_come_scoped : (t : Tables) (outer : Scope) (full : Elaborated) (name : List ℕ) (r : Region) → RegionScoped (seen plan entries t) outer full r → RegionScoped (seen plan entries t) outer full (named_objects.object_come name r)
+  object_come_scoped t outer full name r h = record { level = h.level; symbols = h.symbols; named = h.named; celled = h.celled; entries = h.entries; parts = h.parts }
+
+  protected_body_fine : (at : Pos) (i : Ident) (inner : plain.OperationBodies) (last : Option Ident) (n : Place) (t : Tables) (outer : Scope) (full : Elaborated) (base : ℕ)
+      → ((o : BodyPlaces) (awaited : List AwaitedPart) (u : Tables) (frames : Scope) (w : Waiting) → BodiesFine inner o awaited u frames base w) → DeclarationFine (plain.protected_body at i inner last) n t outer full base
+  unfolding DeclarationFine BodiesFine
+  protected_body_fine at i inner last n t outer full base f = λ inside part enough p r q. by (objects.object_awaited i n) refl inside part enough p r q
+    where
+      scope : Scope
+      scope = outer ++ full ∷ []
+
+      before : Region
+      before = names.innermost n
+
+      here : Place
+      here = objects.object_behind i n
+
+      places : Option AwaitedObject → BodyPlaces
+      places found = operations.body_places i.name (objects.body_object found t) here
+
+      waiting : Option AwaitedObject → List AwaitedPart
+      waiting found = named_objects.awaited_parts (objects.body_object found t) (names.innermost here).parts
+
+      checked : ℕ → Tables → Outcome (List AwaitedPart)
+      checked object u = s.checked_bodies inner (operations.body_places i.name object here) (named_objects.awaited_parts object (names.innermost here).parts) u
+
+      whole : Option AwaitedObject → Outcome d.Declared
+      whole found = objects.object_body_of i found last checked here t
+
+      front : Option AwaitedObject → List Entry
+      front found = in_bodies inner (places found) (waiting found) (objects.object_tables found i t) (bodies_scope (places found) scope)
+
+      by : (found : Option AwaitedObject) → objects.object_awaited i n ≡ found → InBody (seen plan entries t) outer full n → InPart plan entries base scope (waits_in before) t → before.cells ≤ full.cells → InPlan plan t (whole found).tables → Ready entries t (front found) → (whole found).faults ≡ []
+          → DeclaredScoped (seen plan entries (whole found).tables) outer full n (whole found).made × InPart plan entries base scope (waits_in (names.innermost here)) (whole found).tables × Stay base t (whole found).tables × (Barred plan entries t → Barred plan entries (whole found).tables)
+      by None e inside part enough p r q = absurd (no_fault _ _ q)
+      by (Some x) e inside part enough p r q =
+          let o : BodyPlaces = places (Some x) in
+          let bodies = checked x.object t in
+          let own = found_object (ObjectWaits plan entries base scope t before.parts) i.name before.objects x e part.2 in
+          let faults = both_none bodies.faults ((objects.without_part_bodies bodies.made ++ rules.right_name_at_end i.name last) ++ []) q in
+          let all_come = no_parts_wait bodies.made (both_none (objects.without_part_bodies bodies.made) (rules.right_name_at_end i.name last) (both_none (objects.without_part_bodies bodies.made ++ rules.right_name_at_end i.name last) [] faults.1).0).0 in
+          let behind : InBody (seen plan entries t) outer full here = record { innermost = object_come_scoped t outer full i.name before inside.innermost; others = inside.others } in
+          let around : RegionsScoped (seen plan entries t) scope here.regions = body_regions (seen plan entries t) outer full true here full behind enough (λ z. omega arith) in
+          let leveled : (names.innermost here).level + 1 ≡ length scope = omega (arith, behind.innermost.level, length_push outer full) in
+          let frame : Elaborated = elaborated (names.innermost o.inside) in
+          let framed : own_frame x.object before.parts ≡ frame = sym (body_frames plan entries Inside i.name x.object here) in
+          let some : 1 ≤ frame.cells = parts_more (own_instance ((names.innermost here).level + 1) x.object Inside) before.parts (named_objects.object_frame here) in
+          let are : PartsAre plan entries base t (scope ++ frame ∷ []) x.object before.parts = subst (λ z. PartsAre plan entries base t (scope ++ z ∷ []) x.object before.parts) framed own.1 in
+          let in_inside = of_objects.body_fits plan entries base t Inside i.name x.object here scope frame refl framed some leveled around are in
+          let in_function = of_objects.body_fits plan entries base t InFunction i.name x.object here scope frame refl framed some leveled around are in
+          let left : Waiting = record (waits_in before) { objects = named_objects.without_first (named_objects.is_object i.name) before.objects } in
+          let each = part_without plan entries base scope i.name (waits_in before) x t e part in
+          let grown = bodies_grow inner o (waiting (Some x)) t in
+          let done = f o (waiting (Some x)) t (scope ++ frame ∷ []) left in_inside in_function are each p r faults.0 in
+          let here_part = part_with_bodies plan entries base scope i.name (waits_in before) bodies.made t bodies.tables grown all_come part done.0 in
+          ((body_grown plan entries t bodies.tables outer full here grown behind, omega arith, refl, none_created (seen plan entries bodies.tables) scope), here_part, done.1, done.2)
 
   mutual
     fine_statement : (x : plain.Statement) (around : Around) (n : Place) (t : Tables) (scope : Scope) → StatementFine x around n t scope
@@ -845,8 +1136,17 @@ module _ (plan : Plan) (entries : List Entry) where
     fine_declaration (plain.task at is_type i x) n t outer full base = task_fine at is_type i x n t outer full base
     fine_declaration (plain.task_body at i ds b) n t outer full base = task_body_fine at i ds b n t outer full base (λ m u scope all first. fine_declarations ds m u scope all first) (λ within m u inner. fine_body b within m u inner)
     fine_declaration (plain.protected at i operations hidden last) n t outer full base = protected_fine at i operations hidden last n t outer full base
-    fine_declaration (plain.protected_body at i inner last) n t outer full base = protected_body_fine at i inner last n t outer full base
+    fine_declaration (plain.protected_body at i inner last) n t outer full base = protected_body_fine at i inner last n t outer full base (λ o awaited u frames w. fine_bodies inner o awaited u frames base w)
 
-  pub entered_scoped : (of_task : Bool) (ds : plain.Declarations) (b : plain.Body) (around : Around) (n : Place) (t : Tables) (outer : Scope) → ((full : Elaborated) → InBody (seen plan entries t) outer full n) → (names.innermost n).awaited ≡ [] → InPlan plan t (s.entered_body of_task ds b around n t).tables → Ready entries t (in_entered ds b around n t outer) → (s.entered_body of_task ds b around n t).faults ≡ []
+    fine_bodies : (x : plain.OperationBodies) (o : BodyPlaces) (awaited : List AwaitedPart) (t : Tables) (frames : Scope) (base : ℕ) (w : Waiting) → BodiesFine x o awaited t frames base w
+    fine_bodies plain.no_bodies o awaited t frames base w = no_bodies_fine o awaited t frames base w
+    fine_bodies (plain.more_bodies x xs) o awaited t frames base w = more_bodies_fine x xs o awaited t frames base w (fine_operation x o awaited t frames base w) (λ still u. fine_bodies xs o still u frames base w)
+
+    fine_operation : (x : plain.OperationBody) (o : BodyPlaces) (awaited : List AwaitedPart) (t : Tables) (frames : Scope) (base : ℕ) (w : Waiting) → OperationFine x o awaited t frames base w
+    fine_operation (plain.entry_body at i fs barrier ds b) o awaited t frames base w = entry_body_fine at i fs barrier ds b o awaited t frames base w (λ m u scope all first. fine_declarations ds m u scope all first) (λ within m u inner. fine_body b within m u inner)
+    fine_operation (plain.procedure_body at i fs ds b) o awaited t frames base w = procedure_body_fine at i fs ds b o awaited t frames base w (λ m u scope all first. fine_declarations ds m u scope all first) (λ within m u inner. fine_body b within m u inner)
+    fine_operation (plain.function_body at i fs mark ds b) o awaited t frames base w = function_body_fine at i fs mark ds b o awaited t frames base w (λ m u scope all first. fine_declarations ds m u scope all first) (λ within m u inner. fine_body b within m u inner)
+
+  pub entered_scoped : (of_task : Bool) (ds : plain.Declarations) (b : plain.Body) (around : Around) (n : Place) (t : Tables) (outer : Scope) → ((full : Elaborated) → InBody (seen plan entries t) outer full n) → waits_in (names.innermost n) ≡ no_waiting → InPlan plan t (s.entered_body of_task ds b around n t).tables → Ready entries t (in_entered ds b around n t outer) → (s.entered_body of_task ds b around n t).faults ≡ []
       → IsFine t (s.entered_body of_task ds b around n t).tables (BodyScoped plan entries (s.entered_body of_task ds b around n t).made (elaborated (names.innermost n)) (table plan (length t.regions)) outer)
   entered_scoped of_task ds b around n t outer = entering_fine of_task ds b around n t outer (λ full base. fine_declarations ds n (region_kept t) outer full base) (λ m u inner. fine_body b around m u inner)

@@ -1,7 +1,8 @@
 -- Tables only grow: what stands there before a construct stays where it is, whatever that enters.
-use Rattle.std.proofs.Common.{◌≡◌, ◌+◌, ◌-◌, ◌<◌, ◌≤◌, ℕ, Bool, true, false, Option, Some, None, List, [], ◌∷◌, ◌++◌, length, slice_index_or, append_assoc, append-nil, arith, refl, sym, ◌∙◌, ap}
+use Rattle.std.proofs.Common.{◌≡◌, ◌⊎◌, inl, inr, ◌+◌, ◌-◌, ◌<◌, ◌≤◌, ℕ, zero, suc, Bool, true, false, Option, Some, None, List, [], ◌∷◌, ◌++◌, length, slice_index_or, append_assoc, append-nil, arith, refl, sym, ◌∙◌, ap, subst}
 use Rattle.std.specs.Prelude.{slice_set}
 use Rattle.std.specs.List.{AllByRecursion}
+use Rattle.std.proofs.lemmas.Bool.{ne_eqb}
 use Rattle.std.proofs.lemmas.List.{length_push, length-append, length-set, get_or-set_same, get_or-set_other, get_or_append_left, get_or_push, set-append_right}
 use Rattle.aud_text.specs.declared.place.Pos.{Pos}
 use Rattle.aud_syntax.specs.declared.tree.Bound.{Bound}
@@ -9,53 +10,78 @@ use Rattle.aud_syntax.specs.declared.tree.Ident.{Ident}
 use Rattle.aud_syntax.specs.Plain as plain
 use Rattle.aud_typed.specs.Tree as tree
 use Rattle.aud_typed.specs.Tree.{Plan}
-use Rattle.aud_typed.specs.Why.Scoped.{table, no_task}
+use Rattle.aud_typed.specs.Why.Scoped.{table, no_task, no_entry_plan, Entry, IsNot, AreDistinct, HaveDistinctEntries}
 use Rattle.aud_names.specs.declared.names.NamedParameter.{NamedParameter}
 use Rattle.aud_names.specs.declared.awaited.Awaited.{Awaited}
+use Rattle.aud_names.specs.declared.awaited.AwaitedObject.{AwaitedObject}
+use Rattle.aud_names.specs.declared.awaited.AwaitedPart.{AwaitedPart}
+use Rattle.aud_names.specs.declared.parts.PartKind.{PartKind}
+use Rattle.aud_names.specs.declared.parts.PartKind.TheVariants as part
+use Rattle.aud_names.specs.Objects.{awaited_parts}
 use Rattle.aud_names.specs.declared.entries.EntryName.{EntryName}
 use Rattle.aud_names.specs.Names as names
 use Rattle.aud_names.specs.Names.{Region, Place}
-use Rattle.aud_check_bodies.specs.Tables.{Tables, Outcome, no_body, with_region, region_kept, region_named, unit_kept, with_unit, task_kept, entry_kept}
+use Rattle.aud_check_bodies.specs.Tables.{Tables, Outcome, no_body, with_region, region_kept, region_named, unit_kept, with_unit, task_kept, entry_kept, protected_entry, protected_entry_kept, entry_at, with_barrier, object_kept}
 use Rattle.aud_check_bodies.specs.Accepts as accepts
 use Rattle.aud_check_bodies.specs.Entries as entries
+use Rattle.aud_check_bodies.specs.Objects as objects
+use Rattle.aud_check_bodies.specs.Operations as operations
+use Rattle.aud_check_bodies.specs.Operations.{Head, of_entry, of_procedure, of_function, BodyPlaces}
 use Rattle.aud_check_bodies.specs.Tasks as tasks
 use Rattle.aud_check_bodies.specs.Declarations as d
 use Rattle.aud_check_bodies.specs.Regions as regions
 use Rattle.aud_check_bodies.specs.Statements as s
 use Rattle.aud_check_bodies.specs.Statements.{Around, nothing_around, task_around}
-use Rattle.aud_check_bodies.proofs.Scoping.Names.{either}
+use Rattle.aud_check_bodies.proofs.Scoping.Names.{Known, either}
 use Rattle.aud_check_bodies.proofs.Scoping.Declarations.{exceptions_more}
+
+pub is_equal : (n m : ℕ) → (n ≡ m) ⊎ (n ≡ m → ⊥)
+is_equal zero zero = inl refl
+is_equal zero (suc m) = inr (λ e. omega (arith, e))
+is_equal (suc n) zero = inr (λ e. omega (arith, e))
+is_equal (suc n) (suc m) = elim (is_equal n m) [ inl e ↦ inl (ap suc e) | inr f ↦ inr (λ e. f (omega (arith, e))) ]
 
 pub record Grows (t u : Tables) : Type 0 where
   pub more_regions : List (List tree.Named)
   pub more_profiles : List (List NamedParameter)
   pub more_tasks : List tree.TaskPlan
+  pub more_entry_profiles : List (List NamedParameter)
   pub regions : u.regions ≡ t.regions ++ more_regions
   pub profiles : u.profiles ≡ t.profiles ++ more_profiles
   pub tasks : u.tasks ≡ t.tasks ++ more_tasks
   -- each unit has a profile
   pub even : length u.units ≡ length t.units + length more_profiles
   pub exceptions : length t.exceptions ≤ length u.exceptions
-  pub entries : length t.entries ≤ length u.entries
+  pub objects : length t.objects ≤ length u.objects
+  pub distinct : HaveDistinctEntries t.objects → HaveDistinctEntries u.objects
+  -- each entry too; a barrier is put where its place was kept
+  pub entry_profiles : u.entry_profiles ≡ t.entry_profiles ++ more_entry_profiles
+  pub entries : length u.entries ≡ length t.entries + length more_entry_profiles
+  pub planned : (n : ℕ) → n < length t.entries → tree.plan_of_entry (entry_at n u) ≡ tree.plan_of_entry (entry_at n t)
 
 pub same : (t : Tables) → Grows t t
-same t = record { more_regions = []; more_profiles = []; more_tasks = []; regions = sym (append-nil t.regions); profiles = sym (append-nil t.profiles); tasks = sym (append-nil t.tasks); even = omega arith; exceptions = omega arith; entries = omega arith }
+same t = record { more_regions = []; more_profiles = []; more_tasks = []; more_entry_profiles = []; regions = sym (append-nil t.regions); profiles = sym (append-nil t.profiles); tasks = sym (append-nil t.tasks); even = omega arith; exceptions = omega arith; objects = omega arith; distinct = λ z. z; entry_profiles = sym (append-nil t.entry_profiles); entries = omega arith; planned = λ n lt. refl }
 
 pub further : {t u v : Tables} → Grows t u → Grows u v → Grows t v
 further {t} {u} {v} g h = record {
   more_regions = g.more_regions ++ h.more_regions;
   more_profiles = g.more_profiles ++ h.more_profiles;
   more_tasks = g.more_tasks ++ h.more_tasks;
+  more_entry_profiles = g.more_entry_profiles ++ h.more_entry_profiles;
   regions = h.regions ∙ ap (λ z. z ++ h.more_regions) g.regions ∙ append_assoc t.regions g.more_regions h.more_regions;
   profiles = h.profiles ∙ ap (λ z. z ++ h.more_profiles) g.profiles ∙ append_assoc t.profiles g.more_profiles h.more_profiles;
   tasks = h.tasks ∙ ap (λ z. z ++ h.more_tasks) g.tasks ∙ append_assoc t.tasks g.more_tasks h.more_tasks;
   even = omega (arith, g.even, h.even, length-append g.more_profiles h.more_profiles);
   exceptions = omega (arith, g.exceptions, h.exceptions);
-  entries = omega (arith, g.entries, h.entries);
+  objects = omega (arith, g.objects, h.objects);
+  distinct = λ z. h.distinct (g.distinct z);
+  entry_profiles = h.entry_profiles ∙ ap (λ z. z ++ h.more_entry_profiles) g.entry_profiles ∙ append_assoc t.entry_profiles g.more_entry_profiles h.more_entry_profiles;
+  entries = omega (arith, g.entries, h.entries, length-append g.more_entry_profiles h.more_entry_profiles);
+  planned = λ n lt. h.planned n (omega (arith, lt, g.entries)) ∙ g.planned n lt;
 }
 
 pub region_grows : (shown : List tree.Named) (t : Tables) → Grows t (with_region shown t)
-region_grows shown t = record { more_regions = shown ∷ []; more_profiles = []; more_tasks = []; regions = refl; profiles = sym (append-nil t.profiles); tasks = sym (append-nil t.tasks); even = omega arith; exceptions = omega arith; entries = omega arith }
+region_grows shown t = record { more_regions = shown ∷ []; more_profiles = []; more_tasks = []; more_entry_profiles = []; regions = refl; profiles = sym (append-nil t.profiles); tasks = sym (append-nil t.tasks); even = omega arith; exceptions = omega arith; objects = omega arith; distinct = λ z. z; entry_profiles = sym (append-nil t.entry_profiles); entries = omega arith; planned = λ n lt. refl }
 
 -- a place that was kept is behind what stood there
 set_behind : {X : Type 0} (xs : List X) (y : X) (ys zs : List X) (z : X) → zs ≡ (xs ++ y ∷ []) ++ ys → slice_set zs (length xs) z ≡ xs ++ slice_set (y ∷ ys) (length xs - length xs) z
@@ -66,12 +92,17 @@ named_grows shown t u g = record {
   more_regions = slice_set ([] ∷ g.more_regions) (length t.regions - length t.regions) shown;
   more_profiles = g.more_profiles;
   more_tasks = g.more_tasks;
+  more_entry_profiles = g.more_entry_profiles;
   regions = set_behind t.regions [] g.more_regions u.regions shown g.regions;
   profiles = g.profiles;
   tasks = g.tasks;
   even = g.even;
   exceptions = g.exceptions;
+  objects = g.objects;
+  distinct = g.distinct;
+  entry_profiles = g.entry_profiles;
   entries = g.entries;
+  planned = g.planned;
 }
 
 -- wherever a unit is put
@@ -80,28 +111,106 @@ put_grows number unit t u g = record {
   more_regions = g.more_regions;
   more_profiles = g.more_profiles;
   more_tasks = g.more_tasks;
+  more_entry_profiles = g.more_entry_profiles;
   regions = g.regions;
   profiles = g.profiles;
   tasks = g.tasks;
   even = omega (arith, g.even, length-set u.units number unit);
   exceptions = g.exceptions;
+  objects = g.objects;
+  distinct = g.distinct;
+  entry_profiles = g.entry_profiles;
   entries = g.entries;
+  planned = g.planned;
 }
 
 pub unit_grows : (profile : List NamedParameter) (t : Tables) → Grows t (unit_kept profile t)
-unit_grows profile t = record { more_regions = []; more_profiles = profile ∷ []; more_tasks = []; regions = sym (append-nil t.regions); profiles = refl; tasks = sym (append-nil t.tasks); even = omega (arith, length_push t.units no_body); exceptions = omega arith; entries = omega arith }
+unit_grows profile t = record { more_regions = []; more_profiles = profile ∷ []; more_tasks = []; more_entry_profiles = []; regions = sym (append-nil t.regions); profiles = refl; tasks = sym (append-nil t.tasks); even = omega (arith, length_push t.units no_body); exceptions = omega arith; objects = omega arith; distinct = λ z. z; entry_profiles = sym (append-nil t.entry_profiles); entries = omega arith; planned = λ n lt. refl }
 
 pub task_grows : (numbers : List ℕ) (t : Tables) → Grows t (task_kept numbers t)
-task_grows numbers t = record { more_regions = []; more_profiles = [] ∷ []; more_tasks = (record { unit = length t.units; entries = numbers }) ∷ []; regions = sym (append-nil t.regions); profiles = refl; tasks = refl; even = omega (arith, length_push t.units no_body); exceptions = omega arith; entries = omega arith }
+task_grows numbers t = record { more_regions = []; more_profiles = [] ∷ []; more_tasks = (record { unit = length t.units; entries = numbers }) ∷ []; more_entry_profiles = []; regions = sym (append-nil t.regions); profiles = refl; tasks = refl; even = omega (arith, length_push t.units no_body); exceptions = omega arith; objects = omega arith; distinct = λ z. z; entry_profiles = sym (append-nil t.entry_profiles); entries = omega arith; planned = λ n lt. refl }
 
 pub own_grows : (found : Option Awaited) (t : Tables) → Grows t (tasks.body_tables found t)
 own_grows None t = task_grows [] t
 own_grows (Some a) t = same t
 
--- entries are entered with their names alone
+-- one entry more
+
+entry_added_grows : (e : tree.EntryBody) (profile : List NamedParameter) (t : Tables) → Grows t (record t { entries = t.entries ++ e ∷ []; entry_profiles = t.entry_profiles ++ profile ∷ [] })
+entry_added_grows e profile t = record {
+  more_regions = [];
+  more_profiles = [];
+  more_tasks = [];
+  more_entry_profiles = profile ∷ [];
+  regions = sym (append-nil t.regions);
+  profiles = sym (append-nil t.profiles);
+  tasks = sym (append-nil t.tasks);
+  even = omega arith;
+  exceptions = omega arith;
+  objects = omega arith;
+  distinct = λ z. z;
+  entry_profiles = refl;
+  entries = length_push t.entries e;
+  planned = λ n lt. ap tree.plan_of_entry (get_or_append_left t.entries (e ∷ []) (tree.task_entry []) n lt);
+}
 
 pub entry_grows : (name : List ℕ) (profile : List NamedParameter) (t : Tables) → Grows t (entry_kept name profile t)
-entry_grows name profile t = record { more_regions = []; more_profiles = []; more_tasks = []; regions = sym (append-nil t.regions); profiles = sym (append-nil t.profiles); tasks = sym (append-nil t.tasks); even = omega arith; exceptions = omega arith; entries = omega (arith, length_push t.entries name) }
+entry_grows name profile t = entry_added_grows (tree.task_entry name) profile t
+
+-- a protected one has a unit besides
+pub protected_entry_grows : (name : List ℕ) (profile : List NamedParameter) (t : Tables) → Grows t (protected_entry_kept name profile t)
+protected_entry_grows name profile t = further {u = unit_kept [] t} (unit_grows [] t) (entry_added_grows (protected_entry name (length t.units)) profile (unit_kept [] t))
+
+object_distinct : (os : List tree.ObjectPlan) (o : tree.ObjectPlan) → HaveDistinctEntries os → AreDistinct o.entries → HaveDistinctEntries (os ++ o ∷ [])
+object_distinct [] o h once = (once, tt)
+object_distinct (x ∷ os) o h once = (h.0, object_distinct os o h.1 once)
+
+-- none of its entries stands twice in the table
+pub object_kept_grows : (name : List ℕ) (numbers : List ℕ) (t : Tables) → AreDistinct numbers → Grows t (object_kept name numbers t)
+object_kept_grows name numbers t once = record {
+  more_regions = [];
+  more_profiles = [];
+  more_tasks = [];
+  more_entry_profiles = [];
+  regions = sym (append-nil t.regions);
+  profiles = sym (append-nil t.profiles);
+  tasks = sym (append-nil t.tasks);
+  even = omega arith;
+  exceptions = omega arith;
+  objects = omega (arith, length_push t.objects (record { name = name; entries = numbers }));
+  distinct = λ z. object_distinct t.objects (record { name = name; entries = numbers }) z once;
+  entry_profiles = sym (append-nil t.entry_profiles);
+  entries = omega arith;
+  planned = λ n lt. refl;
+}
+
+-- a barrier is put in its place
+barred_plan : (number : ℕ) (b : tree.BooleanExpression) (t : Tables) (n : ℕ) → n < length t.entries → tree.plan_of_entry (entry_at n (with_barrier number b t)) ≡ tree.plan_of_entry (entry_at n t)
+barred_plan number b t n lt = elim (is_equal n number) [
+  | inl e ↦
+      let there : number < length t.entries = omega (arith, e, lt) in
+      subst (λ k. tree.plan_of_entry (entry_at k (with_barrier number b t)) ≡ tree.plan_of_entry (entry_at k t)) (sym e)
+      (ap tree.plan_of_entry (get_or-set_same t.entries number (record (entry_at number t) { barrier = b }) (tree.task_entry []) there))
+  | inr ne ↦ ap tree.plan_of_entry (get_or-set_other t.entries number n (record (entry_at number t) { barrier = b }) (tree.task_entry []) ne)
+]
+
+pub barrier_grows : (number : ℕ) (b : tree.BooleanExpression) (t : Tables) → Grows t (with_barrier number b t)
+barrier_grows number b t = record {
+  more_regions = [];
+  more_profiles = [];
+  more_tasks = [];
+  more_entry_profiles = [];
+  regions = sym (append-nil t.regions);
+  profiles = sym (append-nil t.profiles);
+  tasks = sym (append-nil t.tasks);
+  even = omega arith;
+  exceptions = omega arith;
+  objects = omega arith;
+  distinct = λ z. z;
+  entry_profiles = sym (append-nil t.entry_profiles);
+  entries = omega (arith, length-set t.entries number (record (entry_at number t) { barrier = b }));
+  planned = barred_plan number b t;
+}
 
 one_entry_grows : (number : ℕ) (x : plain.EntryDeclaration) (outer : List Region) (es : entries.Entries) → Grows es.tables (entries.one_entry number x outer es).tables
 one_entry_grows number x outer es =
@@ -147,7 +256,7 @@ one_entry_numbered : (number : ℕ) (x : plain.EntryDeclaration) (outer : List R
 one_entry_numbered number x outer es h =
     let profile = (entries.entry_formals x es.own outer).profile in
     let made = entries.entry_added number x.name.name profile es in
-    let longer = length_push es.tables.entries x.name.name in
+    let longer = length_push es.tables.entries (tree.task_entry x.name.name) in
     either (λ (z : entries.Entries). Numbered z.names z.tables) (names.is_declared x.name.name es.own.symbols) es made h (numbered_last es.names (record { task_type = number; name = x.name.name; number = length es.tables.entries }) made.tables (numbered_more es.names es.tables made.tables (omega (arith, longer)) h) (omega (arith, longer)))
 
 pub entries_numbered : (number : ℕ) (xs : List plain.EntryDeclaration) (outer : List Region) (es : entries.Entries) → Numbered es.names es.tables → Numbered (entries.declared_entries number xs outer es).names (entries.declared_entries number xs outer es).tables
@@ -158,7 +267,7 @@ pub kept_grows : (t : Tables) → Grows t (region_kept t)
 kept_grows t = region_grows [] t
 
 exceptions_grow : (is : List Ident) (n : Place) (t : Tables) → Grows t (d.checked_exceptions is n t).tables
-exceptions_grow is n t = record { more_regions = []; more_profiles = []; more_tasks = []; regions = sym (append-nil t.regions); profiles = sym (append-nil t.profiles); tasks = sym (append-nil t.tasks); even = omega arith; exceptions = exceptions_more is (d.exceptions_in n t.exceptions); entries = omega arith }
+exceptions_grow is n t = record { more_regions = []; more_profiles = []; more_tasks = []; more_entry_profiles = []; regions = sym (append-nil t.regions); profiles = sym (append-nil t.profiles); tasks = sym (append-nil t.tasks); even = omega arith; exceptions = exceptions_more is (d.exceptions_in n t.exceptions); objects = omega arith; distinct = λ z. z; entry_profiles = sym (append-nil t.entry_profiles); entries = omega arith; planned = λ n lt. refl }
 
 loop_grows : (i : plain.Iteration) (n : Place) (t : Tables) → Grows t (s.loop_tables i n t)
 loop_grows plain.forever n t = same t
@@ -420,13 +529,159 @@ requeue_grows : (at : Pos) (x : plain.Name) (with_abort : Bool) (around : Around
 unfolding StatementGrows
 requeue_grows at x with_abort around n t = same t
 
+pub operation_grows : (object : ℕ) (is_private : Bool) (x : plain.Operation) (outer : List Region) (o : objects.ObjectDeclared) → Grows o.tables (objects.one_operation object is_private x outer o).tables
+operation_grows object is_private (plain.entry_operation e) outer o = protected_entry_grows e.name.name (objects.operation_formals e.name e.formals o.own (objects.further_out o outer)).profile o.tables
+operation_grows object is_private (plain.procedure_operation i fs) outer o = unit_grows (objects.operation_formals i fs o.own (objects.further_out o outer)).profile o.tables
+operation_grows object is_private (plain.function_operation i fs mark) outer o = unit_grows (objects.function_signature i fs mark o.own (objects.further_out o outer)).0 o.tables
+
+pub item_grows : (object : ℕ) (x : plain.PrivateItem) (outer : List Region) (o : objects.ObjectDeclared) → Grows o.tables (objects.one_item object x outer o).tables
+item_grows object (plain.private_operation x) outer o = operation_grows object true x outer o
+item_grows object (plain.components first others mark initial) outer o = same o.tables
+
+pub operations_grow : (object : ℕ) (xs : List plain.Operation) (outer : List Region) (o : objects.ObjectDeclared) → Grows o.tables (objects.declared_operations object xs outer o).tables
+operations_grow object [] outer o = same o.tables
+operations_grow object (x ∷ xs) outer o = let one = objects.one_operation object false x outer o in further {u = one.tables} (operation_grows object false x outer o) (operations_grow object xs outer one)
+
+pub items_grow : (object : ℕ) (xs : List plain.PrivateItem) (outer : List Region) (o : objects.ObjectDeclared) → Grows o.tables (objects.declared_items object xs outer o).tables
+items_grow object [] outer o = same o.tables
+items_grow object (x ∷ xs) outer o = let one = objects.one_item object x outer o in further {u = one.tables} (item_grows object x outer o) (items_grow object xs outer one)
+
+-- all that an object declares
+pub parts_grow : (name : List ℕ) (operations : List plain.Operation) (hidden : Option (List plain.PrivateItem)) (n : Place) (t : Tables) → Grows t (objects.parts_declared name operations hidden n t).tables
+parts_grow name operations hidden n t =
+    let first = objects.declared_operations (length t.objects) operations n.regions (objects.no_parts name n t) in
+    further {u = first.tables} (operations_grow (length t.objects) operations n.regions (objects.no_parts name n t)) (items_grow (length t.objects) (objects.hidden_items hidden) n.regions first)
+
+-- Each entry of an object has the next number, so none stands twice in it.
+
+abbrev Below : ℕ → List ℕ → Type 0
+Below k ns = AllByRecursion (λ n. n < k) ns
+
+below_more : (ns : List ℕ) (j k : ℕ) → j ≤ k → Below j ns → Below k ns
+below_more [] j k e h = tt
+below_more (n ∷ ns) j k e h = (omega (arith, e, h.0), below_more ns j k e h.1)
+
+below_last : (ns : List ℕ) (n k : ℕ) → n < k → Below k ns → Below k (ns ++ n ∷ [])
+below_last [] n k lt h = (lt, tt)
+below_last (m ∷ ns) n k lt h = (h.0, below_last ns n k lt h.1)
+
+is_not_last : (n : ℕ) (ms : List ℕ) (k : ℕ) → n < k → IsNot n ms → IsNot n (ms ++ k ∷ [])
+is_not_last n [] k lt h = (ne_eqb n k (λ e. omega (arith, e, lt)), tt)
+is_not_last n (m ∷ ms) k lt h = (h.0, is_not_last n ms k lt h.1)
+
+distinct_last : (ns : List ℕ) (k : ℕ) → Below k ns → AreDistinct ns → AreDistinct (ns ++ k ∷ [])
+distinct_last [] k h once = (tt, tt)
+distinct_last (n ∷ ns) k h once = (is_not_last n ns k h.0 once.0, distinct_last ns k h.1 once.1)
+
+record EntriesOnce (x : objects.ObjectDeclared) : Type 0 where
+  pub below : Below (length x.tables.entries) x.entries
+  pub distinct : AreDistinct x.entries
+
+operation_once : (object : ℕ) (is_private : Bool) (x : plain.Operation) (outer : List Region) (o : objects.ObjectDeclared) → EntriesOnce o → EntriesOnce (objects.one_operation object is_private x outer o)
+operation_once object is_private (plain.entry_operation e) outer o h =
+    let number = length o.tables.entries in
+    let more : tree.EntryBody = protected_entry e.name.name (length o.tables.units) in
+    let longer = length_push o.tables.entries more in
+    record {
+      below = below_last o.entries number (length (o.tables.entries ++ more ∷ [])) (omega (arith, longer)) (below_more o.entries number (length (o.tables.entries ++ more ∷ [])) (omega (arith, longer)) h.below);
+      distinct = distinct_last o.entries number h.below h.distinct;
+    }
+operation_once object is_private (plain.procedure_operation i fs) outer o h = record { below = h.below; distinct = h.distinct }
+operation_once object is_private (plain.function_operation i fs mark) outer o h = record { below = h.below; distinct = h.distinct }
+
+operations_once : (object : ℕ) (xs : List plain.Operation) (outer : List Region) (o : objects.ObjectDeclared) → EntriesOnce o → EntriesOnce (objects.declared_operations object xs outer o)
+operations_once object [] outer o h = h
+operations_once object (x ∷ xs) outer o h = operations_once object xs outer (objects.one_operation object false x outer o) (operation_once object false x outer o h)
+
+item_once : (object : ℕ) (x : plain.PrivateItem) (outer : List Region) (o : objects.ObjectDeclared) → EntriesOnce o → EntriesOnce (objects.one_item object x outer o)
+item_once object (plain.private_operation x) outer o h = operation_once object true x outer o h
+item_once object (plain.components first others mark initial) outer o h = record { below = h.below; distinct = h.distinct }
+
+items_once : (object : ℕ) (xs : List plain.PrivateItem) (outer : List Region) (o : objects.ObjectDeclared) → EntriesOnce o → EntriesOnce (objects.declared_items object xs outer o)
+items_once object [] outer o h = h
+items_once object (x ∷ xs) outer o h = items_once object xs outer (objects.one_item object x outer o) (item_once object x outer o h)
+
+pub parts_distinct : (name : List ℕ) (operations : List plain.Operation) (hidden : Option (List plain.PrivateItem)) (n : Place) (t : Tables) → AreDistinct (objects.parts_declared name operations hidden n t).entries
+parts_distinct name operations hidden n t =
+    let none = objects.no_parts name n t in
+    let first = objects.declared_operations (length t.objects) operations n.regions none in
+    (items_once (length t.objects) (objects.hidden_items hidden) n.regions first (operations_once (length t.objects) operations n.regions none (record { below = tt; distinct = tt }))).distinct
+
 protected_grows : (at : Pos) (i : Ident) (operations : List plain.Operation) (hidden : Option (List plain.PrivateItem)) (last : Option Ident) (n : Place) (t : Tables) → DeclarationGrows (plain.protected at i operations hidden last) n t
 unfolding DeclarationGrows
-protected_grows at i operations hidden last n t = same t
+protected_grows at i operations hidden last n t =
+    let x = objects.parts_declared i.name operations hidden n t in
+    further {u = x.tables} (parts_grow i.name operations hidden n t) (object_kept_grows i.name x.entries x.tables (parts_distinct i.name operations hidden n t))
 
-protected_body_grows : (at : Pos) (i : Ident) (inner : plain.OperationBodies) (last : Option Ident) (n : Place) (t : Tables) → DeclarationGrows (plain.protected_body at i inner last) n t
-unfolding DeclarationGrows
-protected_body_grows at i inner last n t = same t
+-- bodies of operations
+
+BodiesGrow : plain.OperationBodies → BodyPlaces → List AwaitedPart → Tables → Type 0
+BodiesGrow x o awaited t = Grows t (s.checked_bodies x o awaited t).tables
+
+OperationGrows : plain.OperationBody → BodyPlaces → List AwaitedPart → Tables → Type 0
+OperationGrows x o awaited t = Grows t (s.checked_operation x o awaited t).tables
+
+operation_kept_grows : (found : Option PartKind) (t : Tables) → Grows t (operations.operation_kept found t)
+operation_kept_grows None t = unit_grows [] t
+operation_kept_grows (Some k) t = same t
+
+barrier_kept_grows : (found : Option PartKind) (b : Option tree.BooleanExpression) (t : Tables) → Grows t (operations.barrier_kept found b t)
+barrier_kept_grows (Some (part.Entry number unit)) (Some b) t = barrier_grows number b t
+barrier_kept_grows (Some (part.Entry number unit)) None t = same t
+barrier_kept_grows (Some (part.Operation unit subprogram)) b t = same t
+barrier_kept_grows (Some (part.Component x)) b t = same t
+barrier_kept_grows None b t = same t
+
+pub operation_tables_grow : (head : Head) (found : Option PartKind) (formals : Region) (here : Place) (t : Tables) → Grows t (operations.operation_tables head found formals here t)
+operation_tables_grow head found formals here t =
+    further {u = operations.operation_kept found t} (operation_kept_grows found t) (barrier_kept_grows found (operations.barrier_of head formals here) (operations.operation_kept found t))
+
+operation_of_grows : (head : Head) (at : Pos) (i : Ident) (fs : List plain.Formal) (ds : plain.Declarations) (b : plain.Body) (o : BodyPlaces) (awaited : List AwaitedPart) (t : Tables)
+    → ((m : Place) (u : Tables) → DeclarationsGrow ds m u) → ((within : Around) (m : Place) (u : Tables) → BodyGrows b within m u) → Grows t (s.checked_operation_of head at i fs ds b o awaited t).tables
+operation_of_grows head at i fs ds b o awaited t f g =
+    let here : Place = operations.operation_place head o in
+    let region = (operations.shape_of head i fs here).region in
+    let found = operations.part_awaited head i o awaited in
+    let inner : Place = names.place_in region here.regions in
+    let entry : Tables = operations.operation_tables head found region here t in
+    let around : Around = s.operation_around head i fs here in
+    let unit = s.checked_operation_unit head at i fs ds b here inner entry in
+    put_grows (operations.operation_unit found t) unit.made t unit.tables (further {u = entry} (operation_tables_grow head found region here t) (entering_grows false ds b around inner entry (f inner (region_kept entry)) (g around)))
+
+entry_body_grows : (at : Pos) (i : Ident) (fs : List plain.Formal) (barrier : plain.Expression) (ds : plain.Declarations) (b : plain.Body) (o : BodyPlaces) (awaited : List AwaitedPart) (t : Tables)
+    → ((m : Place) (u : Tables) → DeclarationsGrow ds m u) → ((within : Around) (m : Place) (u : Tables) → BodyGrows b within m u) → OperationGrows (plain.entry_body at i fs barrier ds b) o awaited t
+unfolding OperationGrows
+entry_body_grows at i fs barrier ds b o awaited t f g = operation_of_grows (of_entry barrier) at i fs ds b o awaited t f g
+
+procedure_body_grows : (at : Pos) (i : Ident) (fs : List plain.Formal) (ds : plain.Declarations) (b : plain.Body) (o : BodyPlaces) (awaited : List AwaitedPart) (t : Tables)
+    → ((m : Place) (u : Tables) → DeclarationsGrow ds m u) → ((within : Around) (m : Place) (u : Tables) → BodyGrows b within m u) → OperationGrows (plain.procedure_body at i fs ds b) o awaited t
+unfolding OperationGrows
+procedure_body_grows at i fs ds b o awaited t f g = operation_of_grows of_procedure at i fs ds b o awaited t f g
+
+function_body_grows : (at : Pos) (i : Ident) (fs : List plain.Formal) (mark : Ident) (ds : plain.Declarations) (b : plain.Body) (o : BodyPlaces) (awaited : List AwaitedPart) (t : Tables)
+    → ((m : Place) (u : Tables) → DeclarationsGrow ds m u) → ((within : Around) (m : Place) (u : Tables) → BodyGrows b within m u) → OperationGrows (plain.function_body at i fs mark ds b) o awaited t
+unfolding OperationGrows
+function_body_grows at i fs mark ds b o awaited t f g = operation_of_grows (of_function mark) at i fs ds b o awaited t f g
+
+no_bodies_grow : (o : BodyPlaces) (awaited : List AwaitedPart) (t : Tables) → BodiesGrow plain.no_bodies o awaited t
+unfolding BodiesGrow
+no_bodies_grow o awaited t = same t
+
+more_bodies_grow : (x : plain.OperationBody) (xs : plain.OperationBodies) (o : BodyPlaces) (awaited : List AwaitedPart) (t : Tables) → OperationGrows x o awaited t → ((still : List AwaitedPart) (u : Tables) → BodiesGrow xs o still u) → BodiesGrow (plain.more_bodies x xs) o awaited t
+unfolding OperationGrows BodiesGrow
+more_bodies_grow x xs o awaited t f g = let first = s.checked_operation x o awaited t in further {u = first.tables} f (g first.made first.tables)
+
+body_object_grows : (found : Option AwaitedObject) (i : Ident) (t : Tables) → Grows t (objects.object_tables found i t)
+body_object_grows None i t = object_kept_grows i.name [] t tt
+body_object_grows (Some o) i t = same t
+
+protected_body_grows : (at : Pos) (i : Ident) (inner : plain.OperationBodies) (last : Option Ident) (n : Place) (t : Tables) → ((o : BodyPlaces) (awaited : List AwaitedPart) (u : Tables) → BodiesGrow inner o awaited u) → DeclarationGrows (plain.protected_body at i inner last) n t
+unfolding BodiesGrow DeclarationGrows
+protected_body_grows at i inner last n t f =
+    let found = objects.object_awaited i n in
+    let object = objects.body_object found t in
+    let here : Place = objects.object_behind i n in
+    further {u = objects.object_tables found i t} (body_object_grows found i t) (f (operations.body_places i.name object here) (awaited_parts object (names.innermost here).parts) (objects.object_tables found i t))
 
 mutual
   statement_more : (x : plain.Statement) (around : Around) (n : Place) (t : Tables) → StatementGrows x around n t
@@ -497,7 +752,16 @@ mutual
   declaration_more (plain.task at is_type i x) n t = task_declaration_grows at is_type i x n t
   declaration_more (plain.task_body at i ds b) n t = task_body_grows at i ds b n t (λ m u. declarations_more ds m u) (λ within m u. body_more b within m u)
   declaration_more (plain.protected at i operations hidden last) n t = protected_grows at i operations hidden last n t
-  declaration_more (plain.protected_body at i inner last) n t = protected_body_grows at i inner last n t
+  declaration_more (plain.protected_body at i inner last) n t = protected_body_grows at i inner last n t (λ o awaited u. bodies_more inner o awaited u)
+
+  bodies_more : (x : plain.OperationBodies) (o : BodyPlaces) (awaited : List AwaitedPart) (t : Tables) → BodiesGrow x o awaited t
+  bodies_more plain.no_bodies o awaited t = no_bodies_grow o awaited t
+  bodies_more (plain.more_bodies x xs) o awaited t = more_bodies_grow x xs o awaited t (operation_more x o awaited t) (λ still u. bodies_more xs o still u)
+
+  operation_more : (x : plain.OperationBody) (o : BodyPlaces) (awaited : List AwaitedPart) (t : Tables) → OperationGrows x o awaited t
+  operation_more (plain.entry_body at i fs barrier ds b) o awaited t = entry_body_grows at i fs barrier ds b o awaited t (λ m u. declarations_more ds m u) (λ within m u. body_more b within m u)
+  operation_more (plain.procedure_body at i fs ds b) o awaited t = procedure_body_grows at i fs ds b o awaited t (λ m u. declarations_more ds m u) (λ within m u. body_more b within m u)
+  operation_more (plain.function_body at i fs mark ds b) o awaited t = function_body_grows at i fs mark ds b o awaited t (λ m u. declarations_more ds m u) (λ within m u. body_more b within m u)
 
 pub statement_grows : (x : plain.Statement) (around : Around) (n : Place) (t : Tables) → Grows t (s.checked_statement x around n t).tables
 unfolding StatementGrows
@@ -547,6 +811,14 @@ pub declaration_grows : (x : plain.Declaration) (n : Place) (t : Tables) → Gro
 unfolding DeclarationGrows
 declaration_grows x n t = declaration_more x n t
 
+pub operation_body_grows : (x : plain.OperationBody) (o : BodyPlaces) (awaited : List AwaitedPart) (t : Tables) → Grows t (s.checked_operation x o awaited t).tables
+unfolding OperationGrows
+operation_body_grows x o awaited t = operation_more x o awaited t
+
+pub bodies_grow : (x : plain.OperationBodies) (o : BodyPlaces) (awaited : List AwaitedPart) (t : Tables) → Grows t (s.checked_bodies x o awaited t).tables
+unfolding BodiesGrow
+bodies_grow x o awaited t = bodies_more x o awaited t
+
 -- of a body that is entered
 pub entered_grows : (of_task : Bool) (ds : plain.Declarations) (b : plain.Body) (around : Around) (n : Place) (t : Tables) → Grows t (s.entered_body of_task ds b around n t).tables
 entered_grows of_task ds b around n t = entering_grows of_task ds b around n t (declarations_more ds n (region_kept t)) (λ m u. body_more b around m u)
@@ -556,7 +828,8 @@ entered_grows of_task ds b around n t = entering_grows of_task ds b around n t (
 pub record InPlan (plan : Plan) (t u : Tables) : Type 0 where
   pub regions : (n : ℕ) → length t.regions ≤ n → n < length u.regions → table plan n ≡ slice_index_or u.regions n []
   pub exceptions : length u.exceptions ≤ length plan.exceptions
-  pub entries : length u.entries ≤ length plan.entries
+  pub objects : length u.objects ≤ length plan.objects
+  pub entries : (n : ℕ) → n < length u.entries → (n < length plan.entries) × (slice_index_or plan.entries n no_entry_plan ≡ tree.plan_of_entry (entry_at n u))
   pub tasks : (n : ℕ) → n < length u.tasks → (n < length plan.tasks) × (slice_index_or plan.tasks n no_task ≡ slice_index_or u.tasks n no_task)
 
 module _ (plan : Plan) where
@@ -568,14 +841,17 @@ module _ (plan : Plan) where
   first_in_plan t u v g h = record {
     regions = λ n after before. h.regions n after (omega (arith, before, regions_longer u v g)) ∙ ap (λ z. slice_index_or z n []) g.regions ∙ get_or_append_left u.regions g.more_regions [] n before;
     exceptions = omega (arith, g.exceptions, h.exceptions);
-    entries = omega (arith, g.entries, h.entries);
+    objects = omega (arith, g.objects, h.objects);
+    entries = λ n lt.
+        let there = h.entries n (omega (arith, lt, g.entries)) in
+        (there.0, there.1 ∙ g.planned n lt);
     tasks = λ n lt.
         let there = h.tasks n (omega (arith, lt, ap length g.tasks, length-append u.tasks g.more_tasks)) in
         (there.0, there.1 ∙ ap (λ z. slice_index_or z n no_task) g.tasks ∙ get_or_append_left u.tasks g.more_tasks no_task n lt);
   }
 
   pub second_in_plan : (t u v : Tables) → Grows t u → InPlan plan t v → InPlan plan u v
-  second_in_plan t u v g h = record { regions = λ n after before. h.regions n (omega (arith, after, regions_longer t u g)) before; exceptions = h.exceptions; entries = h.entries; tasks = h.tasks }
+  second_in_plan t u v g h = record { regions = λ n after before. h.regions n (omega (arith, after, regions_longer t u g)) before; exceptions = h.exceptions; objects = h.objects; entries = h.entries; tasks = h.tasks }
 
   kept_longer : (t u : Tables) → Grows (region_kept t) u → length t.regions < length u.regions
   kept_longer t u g = omega (arith, regions_longer (region_kept t) u g, length_push t.regions [])
@@ -593,6 +869,7 @@ module _ (plan : Plan) where
         let one = length_push t.regions [] in
         h.regions n (omega (arith, after, one)) (omega (arith, before, long)) ∙ get_or-set_other u.regions (length t.regions) n shown [] (λ e. omega (arith, e, after, one));
     exceptions = h.exceptions;
+    objects = h.objects;
     entries = h.entries;
     tasks = h.tasks;
   }
@@ -603,3 +880,7 @@ module _ (plan : Plan) where
       let one = length_push t.regions shown in
       h.regions (length t.regions) (omega arith) (omega (arith, one, regions_longer (with_region shown t) u g))
       ∙ ap (λ z. slice_index_or z (length t.regions) []) g.regions ∙ get_or_append_left (t.regions ++ shown ∷ []) g.more_regions [] (length t.regions) (omega (arith, one)) ∙ get_or_push t.regions shown [] (length t.regions) refl
+
+-- what is known where these are the tables
+abbrev pub seen : Plan → List Entry → Tables → Known
+seen plan entries t = record { plan = plan; entries = entries; profiles = t.profiles; complete = true }

@@ -8,12 +8,13 @@ use Rattle.aud_syntax.specs.Plain.{Name}
 use Rattle.aud_syntax.specs.Ties.View.{plain_name}
 use Rattle.aud_typed.specs.declared.program.Argument as memory
 use Rattle.aud_typed.specs.declared.program.Reference as reference
-use Rattle.aud_typed.specs.declared.program.TaskName as task
 use Rattle.aud_typed.specs.declared.program.CallForm as form
-use Rattle.aud_typed.specs.Tree.{Argument, Reference, TaskName, CallForm}
-use Rattle.aud_typed.specs.Ties.View.{plain_argument, plain_arguments, plain_reference, plain_task, plain_form}
+use Rattle.aud_typed.specs.Tree.{Argument, Reference, CallForm}
+use Rattle.aud_typed.specs.Ties.View.{plain_argument, plain_arguments, plain_reference, plain_callee, plain_form}
 use Rattle.aud_check_bodies.specs.declared.entry_call.EntryCalled as memory_call
-use Rattle.aud_check_bodies.specs.Calls.{EntryCalled}
+use Rattle.aud_check_bodies.specs.declared.entry_call.Whose as memory_whose
+use Rattle.aud_check_bodies.specs.declared.entry_call.Whose.TheVariants.{Own, Other}
+use Rattle.aud_check_bodies.specs.Calls.{Whose, own_object, another, EntryCalled}
 
 -- the name that an expression is, if it is one
 abbrev pub plain_found : Option (Bor source.Name) → Option Name
@@ -35,11 +36,15 @@ one_more_passed _ _ = None
 
 -- Entry calls.
 
-abbrev pub plain_called_task : Option task.TaskName → Option TaskName
-plain_called_task t = option_map plain_task t
+abbrev pub plain_whose : memory_whose.Whose → Whose
+plain_whose Own = own_object
+plain_whose (Other c) = another (plain_callee c)
+
+abbrev pub plain_maybe_whose : Option memory_whose.Whose → Option Whose
+plain_maybe_whose w = option_map plain_whose w
 
 abbrev pub plain_entry_called : memory_call.EntryCalled → EntryCalled
-plain_entry_called c = record { task = plain_task c.task; entry = c.entry; arguments = plain_arguments c.arguments.items }
+plain_entry_called c = record { whose = plain_whose c.whose; entry = c.entry; arguments = plain_arguments c.arguments.items }
 
 abbrev pub plain_maybe_called : Option memory_call.EntryCalled → Option EntryCalled
 plain_maybe_called c = option_map plain_entry_called c

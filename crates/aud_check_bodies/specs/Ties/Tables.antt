@@ -1,7 +1,7 @@
 -- The plain data of a program's tables in memory.
 use Rattle.std.specs.Prelude.{List, map, Vec}
 use Rattle.std.specs.Global.{Global}
-use Rattle.aud_typed.specs.Ties.View.{plain_region, plain_unit, plain_task_type}
+use Rattle.aud_typed.specs.Ties.View.{plain_region, plain_unit, plain_task_type, plain_object, plain_entry}
 use Rattle.aud_names.specs.declared.names.NamedParameter.{NamedParameter}
 use Rattle.aud_check_bodies.specs.declared.tables.Tables as memory
 use Rattle.aud_check_bodies.specs.Tables.{Tables}
@@ -17,6 +17,7 @@ plain_tables t = record {
   profiles = plain_profiles t.profiles;
   units = map plain_unit t.units.items;
   tasks = map plain_task_type t.tasks.items;
-  entries = t.entries.items;
+  objects = map plain_object t.objects.items;
+  entries = map plain_entry t.entries.items;
   entry_profiles = plain_profiles t.entry_profiles;
 }

@@ -16,10 +16,10 @@ use Rattle.aud_typing.specs.Ties.Typing.{in_box}
 
 -- the constructs around a statement
 abbrev pub around_of : Within → Around
-around_of within = record { labels = plain_labels within.labels.now; in_handler = within.in_handler; in_task = within.in_task; accepting = within.accepting.now }
+around_of within = record { labels = plain_labels within.labels.now; in_handler = within.in_handler; leaves = within.leaves; accepting = within.accepting.now }
 
 abbrev pub around_entering : Entering → Around
-around_entering entering = record { labels = plain_labels entering.labels.now; in_handler = entering.in_handler; in_task = entering.in_task; accepting = entering.accepting.now }
+around_entering entering = record { labels = plain_labels entering.labels.now; in_handler = entering.in_handler; leaves = entering.leaves; accepting = entering.accepting.now }
 
 -- the faults are noted, these are the tables, and this is made; nothing is said where memory is refused
 abbrev pub Checks : {X Y : Type 0} → (X → Y) → Result X AllocError → Option Fault → Option Fault → Tables → Outcome Y → Type 0

@@ -3,9 +3,11 @@ use Rattle.std.specs.Prelude.{ℕ, suc, List, [], ◌∷◌, ◌++◌, codes}
 use Rattle.std.specs.Fmt.{decimal}
 use Rattle.aud_typed.specs.Tree.{Plan}
 use Rattle.aud_meaning.specs.declared.state.Move.{Move}
+use Rattle.aud_meaning.specs.declared.state.Owner.{Owner}
+use Rattle.aud_meaning.specs.declared.state.Owner.TheVariants as owner
 use Rattle.aud_meaning.specs.Configuration.{All}
 use Rattle.aud_meaning.specs.Listings.{abnormal_word, alternative_word, queue_lines, spaced, word}
-use Rattle.aud_meaning.specs.Parts.{call_of, entry_plan, own_of}
+use Rattle.aud_meaning.specs.Parts.{call_of, entry_plan, object_of, object_plan, own_of, owner_number}
 use Rattle.aud_code.specs.Places.{Spot}
 use Rattle.aud_code.specs.Flat.{Flat, barrier_at}
 use Rattle.aud_tasks.specs.Shown.{status_in, step_in}
@@ -31,19 +33,30 @@ abbrev pub each_line : Plan → Flat → ℕ → List Move → All Spot → List
 each_line plan code i [] c = []
 each_line plan code i (m ∷ ms) c = move_line plan code i m c ∷ each_line plan code (suc i) ms c
 
--- the task, with its number, and the entry, before the callers
-abbrev pub queue_head : Plan → ℕ → ℕ → All Spot → List ℕ
-queue_head plan n entry c = spaced (codes "task") (spaced (decimal (suc n)) ((own_of n c).name ++ 46 ∷ ((entry_plan plan entry).name ++ 58 ∷ [])))
+-- Queues.
+
+abbrev pub owner_word : Owner → List ℕ
+owner_word (owner.Task n) = codes "task"
+owner_word (owner.Object n) = codes "object"
+
+abbrev pub owner_name : Plan → Owner → All Spot → List ℕ
+owner_name plan (owner.Task n) c = (own_of n c).name
+owner_name plan (owner.Object n) c = (object_plan plan (object_of n c).declaration).name
+
+-- the task or object, with its number, and the entry, before the callers
+abbrev pub queue_head : Plan → Owner → ℕ → All Spot → List ℕ
+queue_head plan o entry c =
+    spaced (owner_word o) (spaced (decimal (suc (owner_number o))) (owner_name plan o c ++ 46 ∷ ((entry_plan plan entry).name ++ 58 ∷ [])))
 
 -- the callers of these calls
 abbrev pub calls_on : List ℕ → All Spot → List ℕ
 calls_on [] c = []
 calls_on (id ∷ ids) c = 32 ∷ (decimal (suc (call_of id c).caller) ++ calls_on ids c)
 
--- the line of an entry, if a call is queued there
-abbrev pub queue_line : Plan → ℕ → ℕ → All Spot → List (List ℕ)
-queue_line plan n entry c = queue_lines plan (codes "task") (own_of n c).name n (entry ∷ []) c
+-- those of some entries of a task or an object
+abbrev pub entry_lines : Plan → Owner → List ℕ → All Spot → List (List ℕ)
+entry_lines plan o entries c = queue_lines plan (owner_word o) (owner_name plan o c) (owner_number o) entries c
 
--- those of some entries of a task
-abbrev pub entry_lines : Plan → ℕ → List ℕ → All Spot → List (List ℕ)
-entry_lines plan n entries c = queue_lines plan (codes "task") (own_of n c).name n entries c
+-- the line of an entry, if a call is queued there
+abbrev pub queue_line : Plan → Owner → ℕ → All Spot → List (List ℕ)
+queue_line plan o entry c = entry_lines plan o (entry ∷ []) c

@@ -71,7 +71,6 @@ WrongTasks =
     × DeclarationsStop (codes "task type T := 1;") 3
     × DeclarationsStop (codes "T : task;") 2
     × DeclarationsStop (codes "type T;") 0
-    × DeclarationsStop (codes "protected T is end;") 0
     × StatementsStop (codes "task T;") 0
     × ProgramStops (codes "procedure P is task") 4
     × ProgramStops (codes "procedure P is task T; end P;") 6

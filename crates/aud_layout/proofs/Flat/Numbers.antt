@@ -4,10 +4,13 @@ use Rattle.std.proofs.lemmas.Bool.{cases_lt}
 use Rattle.aud_typed.specs.declared.program.Variable.{Variable}
 use Rattle.aud_typed.specs.declared.program.ArrayAt.{ArrayAt}
 use Rattle.aud_typed.specs.Tree.{IntegerExpression, number, variable, element, unary, binary, count, Reference, scalar, component, TaskName, single, indexed, BooleanExpression, truth, stored, negation, relation, comparison, logical, and_then, or_else, callable, terminated, ValueExpression, whole, boolean, TextExpression, literal, image, image_truth, join, new_line, DelayExpression, milliseconds, seconds, Argument, by_value, by_copy, CallForm, plainly, conditionally, timed, Callee, of_task, of_object, Statement, sequence, declare, declare_array, declare_tasks, declare_object, assign, put, if_then, while_loop, for_loop, exit, return_value, procedure_call, own_entry_call, operation_call, entry_call, delay, select, abort, Alternatives, no_alternatives, accepting, delaying, terminating, Plan}
-use Rattle.aud_typed.specs.Why.Scoped.{Elaborated, Scope, cells_at, IsElaborated, AreElaborated, IntegerScoped, ReferenceScoped, TaskScoped, BooleanScoped, ValueScoped, ArgumentScoped, ArgumentsScoped, TextScoped, DelayScoped, FormScoped, CalleeScoped, in_innermost, declared_up_to, declared_with, scope_after, Entry, AreOpen, StatementScoped, AlternativesScoped}
+use Rattle.aud_typed.specs.Why.Scoped.{Elaborated, Scope, cells_at, IsElaborated, AreElaborated, IntegerScoped, ReferenceScoped, TaskScoped, BooleanScoped, ValueScoped, ArgumentScoped, ArgumentsScoped, TextScoped, DelayScoped, FormScoped, CalleeScoped, IntoScoped, ComponentsScoped, own_number, in_innermost, declared_up_to, declared_with, scope_after, Entry, AreOpen, AreAround, StatementScoped, AlternativesScoped}
 use Rattle.aud_code.specs.Instruction.{Instruction}
-use Rattle.aud_code.specs.Seen.{IsWritten, ArrayOpen, NamesOpen, Fewer, OutSees}
-use Rattle.aud_layout.specs.Instructions.{integer_code, loaded_code, reference_code, task_code, condition_code, value_code, text_code, into_code, argument_code, arguments_code, delay_code, form_code, called_code, call_code, guards_code, timed_code, delays_code, instructions_of}
+use Rattle.aud_code.specs.Seen.{IsWritten, ArrayOpen, Fewer, OutSees}
+use Rattle.aud_code.specs.Seen as seen
+use Rattle.aud_layout.specs.Layout.{What, does}
+use Rattle.aud_layout.specs.Assembly.{instructions_by}
+use Rattle.aud_layout.specs.Instructions.{integer_code, loaded_code, reference_code, task_code, condition_code, value_code, text_code, into_code, argument_code, arguments_code, delay_code, form_code, components_code, called_code, call_code, guards_code, timed_code, delays_code}
 
 pub is_written : (o : Option ℕ) (n : ℕ) (P : ℕ → Type 0) → o ≡ Some n → P n → IsWritten o P
 is_written o n P e p = subst (λ x. IsWritten x P) (sym e) p
@@ -46,6 +49,7 @@ after_long (sequence a b) scope = after_long b (scope_after a scope) ∙ after_l
 after_long (declare at up_to e) scope = in_innermost_long (declared_up_to up_to) scope
 after_long (declare_array at t n) scope = in_innermost_long (declared_with n) scope
 after_long (declare_tasks at ts) scope = in_innermost_long (declared_with ts.length) scope
+after_long (declare_object at n es) scope = in_innermost_long (declared_with 1) scope
 after_long s scope = refl
 
 pub one_longer : (scope : Scope) (e : Elaborated) (n : ℕ) → length scope ≡ n → length (scope ++ e ∷ []) ≡ suc n
@@ -56,6 +60,12 @@ open_long [] scope h = omega arith
 open_long (e ∷ es) [] h = absurd h
 open_long (e ∷ es) (x ∷ xs) h = let l = open_long es xs h.1 in omega (arith, l)
 
+pub around_long : (es scope : Scope) → AreAround es scope → length es ≤ suc (length scope)
+around_long [] scope h = absurd h
+around_long (own ∷ []) scope h = omega arith
+around_long (e ∷ x ∷ es) [] h = absurd h
+around_long (e ∷ x ∷ es) (y ∷ ys) h = let l = around_long (x ∷ es) ys h.1 in omega (arith, l)
+
 -- Variables of open frames.
 
 level_open : (level : ℕ) (scope : Scope) → 0 < cells_at level scope → level < length scope
@@ -64,7 +74,7 @@ level_open (suc n) [] h = absurd (omega (arith, h))
 level_open zero (e ∷ es) h = omega arith
 level_open (suc n) (e ∷ es) h = let l = level_open n es h in omega (arith, l)
 
-variable_open : (v : Variable) (scope : Scope) → IsElaborated v scope → v.level < length scope
+pub variable_open : (v : Variable) (scope : Scope) → IsElaborated v scope → v.level < length scope
 variable_open v scope h = level_open v.level scope (omega (arith, h))
 
 array_open : (a : ArrayAt) (scope : Scope) → AreElaborated a scope → ArrayOpen a (length scope)
@@ -74,8 +84,12 @@ array_open a scope h = by (cases_lt 0 a.length) where
   by (inr none) = inl (omega (arith, none))
 
 abbrev pub AllOpen : ℕ → List Instruction → Type 0
-AllOpen n [] = Unit {0}
-AllOpen n (i ∷ is) = NamesOpen i n × AllOpen n is
+AllOpen n is = seen.AllOpen is n
+
+-- those of a step; where it declares an object, that is open behind the first one
+abbrev pub StepOpen : ℕ → What → Type 0
+StepOpen n (does (declare_object at k es)) = AllOpen (suc n) (components_code es)
+StepOpen n w = AllOpen n (instructions_by w)
 
 both : (n : ℕ) (is js : List Instruction) → AllOpen n is → AllOpen n js → AllOpen n (is ++ js)
 both n [] js h k = k
@@ -105,7 +119,7 @@ module _ (scope : Scope) where
   task_open (single v) h = (variable_open v scope h, tt)
   task_open (indexed a e) h = both N (integer_code e) _ (integer_open e h.1) (array_open a scope h.0, tt)
 
-  condition_open : (e : BooleanExpression) → BooleanScoped e scope → AllOpen N (condition_code e)
+  pub condition_open : (e : BooleanExpression) → BooleanScoped e scope → AllOpen N (condition_code e)
   condition_open (truth b) h = (tt, tt)
   condition_open (stored r) h = both N (loaded_code r) _ (loaded_open r h) (tt, tt)
   condition_open (negation x) h = both N (condition_code x) _ (condition_open x h) (tt, tt)
@@ -151,41 +165,54 @@ module _ (scope : Scope) where
 
   call_open : (c : Callee) (xs : List Argument) (f : CallForm) → CalleeScoped c scope → ArgumentsScoped xs scope → FormScoped f scope → AllOpen N (call_code c xs f)
   call_open (of_task t) xs f h k l = both N (task_code t) _ (task_open t h) (tt, (tt, called_open xs f k l))
-  call_open (of_object v) xs f h k l = absurd h
+  call_open (of_object v) xs f h k l = called_open xs f k l
+
+  into_open : (r : Option Reference) → IntoScoped r scope → AllOpen N (into_code r)
+  into_open None h = tt
+  into_open (Some r) h = reference_open r h
+
+-- of an object that is declared, each sees the earlier ones
+components_open : (scope : Scope) (es : List ValueExpression) (own : Elaborated) → ComponentsScoped es own scope → AllOpen (suc (length scope)) (components_code es)
+components_open scope [] own h = tt
+components_open scope (e ∷ es) own h =
+    both (suc (length scope)) (value_code e) _ (subst (λ n. AllOpen n (value_code e)) (one_longer scope own (length scope) refl) (value_open (scope ++ own ∷ []) e h.0)) (tt, components_open scope es (declared_with 1 own) h.1)
+
+module _ (scope : Scope) where
+  abbrev M : ℕ
+  M = length scope
 
   module _ (plan : Plan) (entries : List Entry) where
-    guards_open : (n : ℕ) (o : Alternatives) → AlternativesScoped plan entries o scope → AllOpen N (guards_code n o)
+    guards_open : (n : ℕ) (o : Alternatives) → AlternativesScoped plan entries o scope → AllOpen M (guards_code n o)
     guards_open n no_alternatives h = tt
-    guards_open n (accepting g at e d p more) h = both N (condition_code g) _ (condition_open g h.0) (tt, guards_open (suc n) more h.4)
-    guards_open n (delaying g e p more) h = both N (condition_code g) _ (condition_open g h.0) (tt, guards_open (suc n) more h.3)
-    guards_open n (terminating g more) h = both N (condition_code g) _ (condition_open g h.0) (tt, guards_open (suc n) more h.1)
+    guards_open n (accepting g at e d p more) h = both M (condition_code g) _ (condition_open scope g h.0) (tt, guards_open (suc n) more h.4)
+    guards_open n (delaying g e p more) h = both M (condition_code g) _ (condition_open scope g h.0) (tt, guards_open (suc n) more h.3)
+    guards_open n (terminating g more) h = both M (condition_code g) _ (condition_open scope g h.0) (tt, guards_open (suc n) more h.1)
 
-    delays_open : (n : ℕ) (o : Alternatives) → AlternativesScoped plan entries o scope → AllOpen N (delays_code n o)
+    delays_open : (n : ℕ) (o : Alternatives) → AlternativesScoped plan entries o scope → AllOpen M (delays_code n o)
     delays_open n no_alternatives h = tt
     delays_open n (accepting g at e d p more) h = delays_open (suc n) more h.4
-    delays_open n (delaying g e p more) h = (tt, both N (timed_code n e) _ (both N (delay_code e) _ (delay_open e h.1) (tt, tt)) (delays_open (suc n) more h.3))
+    delays_open n (delaying g e p more) h = (tt, both M (timed_code n e) _ (both M (delay_code e) _ (delay_open scope e h.1) (tt, tt)) (delays_open (suc n) more h.3))
     delays_open n (terminating g more) h = delays_open (suc n) more h.1
 
     -- of a statement's own step
-    statement_open : (s : Statement) → StatementScoped plan entries s scope → AllOpen N (instructions_of s)
-    statement_open (declare at up_to e) h = value_open e h
-    statement_open (assign at r e) h = both N (reference_code r) _ (reference_open r h.0) (value_open e h.1)
-    statement_open (put at t) h = text_open t h
-    statement_open (if_then at e a p) h = condition_open e h.0
-    statement_open (while_loop at e a) h = condition_open e h.0
-    statement_open (for_loop f a b s) h = both N (integer_code a) _ (integer_open a h.0) (integer_open b h.1)
-    statement_open (exit at n e) h = condition_open e h
-    statement_open (procedure_call at c) h =
-        subst (λ r. AllOpen N (into_code r ++ arguments_code 0 c.arguments)) (sym h.4) (arguments_open 0 c.arguments h.3)
-    statement_open (declare_object at n es) h = absurd h
-    statement_open (return_value at e) h = absurd h
-    statement_open (own_entry_call at es form) h = absurd h
-    statement_open (operation_call at v c) h = absurd h
-    statement_open (entry_call at c p q) h = call_open c.callee c.arguments c.form h.0.1 h.0.2 h.0.3
-    statement_open (delay at e) h = delay_open e h
-    statement_open (select at offered p) h = both N (guards_code 1 offered) _ (guards_open 1 offered h.0) (tt, delays_open 1 offered h.0)
+    statement_open : (s : Statement) → StatementScoped plan entries s scope → StepOpen M (does s)
+    statement_open (declare at up_to e) h = value_open scope e h
+    statement_open (assign at r e) h = both M (reference_code r) _ (reference_open scope r h.0) (value_open scope e h.1)
+    statement_open (put at t) h = text_open scope t h
+    statement_open (if_then at e a p) h = condition_open scope e h.0
+    statement_open (while_loop at e a) h = condition_open scope e h.0
+    statement_open (for_loop f a b s) h = both M (integer_code a) _ (integer_open scope a h.0) (integer_open scope b h.1)
+    statement_open (exit at n e) h = condition_open scope e h
+    statement_open (procedure_call at c) h = both M (into_code c.into) _ (into_open scope c.into h.4) (arguments_open scope 0 c.arguments h.3)
+    statement_open (declare_object at n es) h = components_open scope es own_number h.1
+    statement_open (return_value at e) h = value_open scope e h
+    statement_open (own_entry_call at es form) h = called_open scope es form h.0 h.1
+    statement_open (operation_call at v c) h = both M (into_code c.into) _ (into_open scope c.into h.1.4) (arguments_open scope 0 c.arguments h.1.3)
+    statement_open (entry_call at c p q) h = call_open scope c.callee c.arguments c.form h.0.1 h.0.2 h.0.3
+    statement_open (delay at e) h = delay_open scope e h
+    statement_open (select at offered p) h = both M (guards_code 1 offered) _ (guards_open 1 offered h.0) (tt, delays_open 1 offered h.0)
     statement_open (abort at ts) h = absurd h
     statement_open s h = tt
 
-  pub names_open : (plan : Plan) (entries : List Entry) (n : ℕ) (s : Statement) → length scope ≡ n → StatementScoped plan entries s scope → AllOpen n (instructions_of s)
-  names_open plan entries n s e h = subst (λ m. AllOpen m (instructions_of s)) e (statement_open plan entries s h)
+  pub names_open : (plan : Plan) (entries : List Entry) (n : ℕ) (s : Statement) → length scope ≡ n → StatementScoped plan entries s scope → StepOpen n (does s)
+  names_open plan entries n s e h = subst (λ m. StepOpen m (does s)) e (statement_open plan entries s h)

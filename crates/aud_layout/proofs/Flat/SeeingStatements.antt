@@ -1,25 +1,27 @@
 -- The lines of each part of a scoped program see the frames that the table has there.
 use Rattle.std.proofs.Common.{◌≡◌, inl, ℕ, zero, suc, ◌+◌, ◌≤◌, ◌<◌, List, [], ◌∷◌, ◌++◌, length, map, slice_get, slice_index_or, Bool, true, false, Option, Some, None, refl, sym, ap, ◌∙◌, subst, arith}
 use Rattle.aud_text.specs.declared.place.Pos.{Pos}
+use Rattle.aud_typed.specs.declared.program.Variable.{Variable}
 use Rattle.aud_typed.specs.Tree as tree
-use Rattle.aud_typed.specs.Tree.{Statement, sequence, declare, declare_array, declare_tasks, declare_object, if_then, plain_loop, while_loop, for_loop, exit, return, return_value, block, procedure_call, own_entry_call, operation_call, entry_call, delay, accept, select, abort, Part, nothing, some, Handlers, no_handlers, handler, Body, body, Doing, without_do, with_do, Alternatives, no_alternatives, accepting, delaying, terminating, Callee, of_task, of_object, CallForm, TaskPlan, Program}
-use Rattle.aud_typed.specs.Why.Scoped.{Elaborated, Scope, scope_after, CalleeScoped, all_formals, all_of_table, Entry, entry_of, no_task, task_of, table, CreatedScoped, AllCreatedScoped, StatementScoped, PartScoped, DoingScoped, AlternativesScoped, HandlersScoped, BodyScoped, none_yet}
+use Rattle.aud_typed.specs.Tree.{Statement, sequence, declare, declare_array, declare_tasks, declare_object, if_then, plain_loop, while_loop, for_loop, exit, return, return_value, block, procedure_call, own_entry_call, operation_call, entry_call, delay, accept, select, abort, Part, nothing, some, Handlers, no_handlers, handler, Body, body, Doing, without_do, with_do, Alternatives, no_alternatives, accepting, delaying, terminating, Callee, of_task, of_object, CallForm, TaskPlan, EntryPlan, Plan, Program}
+use Rattle.aud_typed.specs.Why.Scoped.{Elaborated, Scope, scope_after, IsElaborated, CalleeScoped, BodyAround, entry_unit, no_entry_plan, all_formals, all_of_table, Entry, entry_of, no_task, task_of, table, CreatedScoped, AllCreatedScoped, StatementScoped, PartScoped, DoingScoped, AlternativesScoped, HandlersScoped, BodyScoped, none_yet}
+use Rattle.aud_meaning.specs.Parts as parts
 use Rattle.aud_meaning.specs.declared.state.Construct.{Construct}
 use Rattle.aud_meaning.specs.declared.state.Construct.TheVariants as construct
 use Rattle.aud_code.specs.Places.{Way}
 use Rattle.aud_code.specs.Flat.{start_at}
 use Rattle.aud_code.specs.Frames.{found, opener, Found}
-use Rattle.aud_code.specs.Seen.{inside, Fewer, WaysSee, BodiesSee, WaySees, WithinSees, OutSees, BodySees, EndingSees, LastSees}
+use Rattle.aud_code.specs.Seen.{inside, Fewer, WaysSee, BodiesSee, WaySees, WithinSees, OutSees, BodySees, BarrierSees, EndingSees, LastSees}
 use Rattle.aud_scoped.specs.Declares.{StatementDeclares, PartDeclares, HandlersDeclare, BodyDeclares, DoingDeclares, OfferedDeclare}
 use Rattle.aud_layout.specs.Layout.{one_line, Line, Around, line, in_loop, in_for, in_block, in_call, around_out, ways_count, statement_size, part_size, handlers_size, body_size, doing_size, offered_size, main_size, end_place, stubs, stubs_of, end_line, part_place, doing_place, parts_from, bodies_from, statement_code, part_code, handlers_code, body_code, doing_code, offered_code, code_of}
 use Rattle.aud_layout.specs.Assembly as assembly
 use Rattle.aud_layout.specs.Assembly.{instructions_by, offset, last_by, way_moved, within_moved, assembled_from, flat_program}
 use Rattle.aud_layout.specs.Instructions.{call_end, ending_of}
-use Rattle.aud_layout.specs.Opened.{body_of, task_bodies}
+use Rattle.aud_layout.specs.Opened.{body_of, task_bodies, frames_before, barrier_frames}
 use Rattle.aud_layout.proofs.Standing.Places.{length-statement, length-part, length-handlers, length-body, length-doing, length-offered}
 use Rattle.aud_layout.proofs.Standing.Sizes.{count-block, last_is}
 use Rattle.aud_layout.proofs.Flat.Frames.{found_is}
-use Rattle.aud_layout.proofs.Flat.Numbers.{is_written, same_there, one_out, after_long, one_longer, open_long, AllOpen, names_open}
+use Rattle.aud_layout.proofs.Flat.Numbers.{is_written, same_there, one_out, after_long, one_longer, open_long, around_long, variable_open, StepOpen, names_open}
 use Rattle.aud_layout.proofs.Flat.Seeing.{lines, Stands, front, back, tail, stands_moved, Here, here_on, here_inside, all_written, first_written, statement_begins, part_begins, guards_see, body_stands, body_begins, body_ends, doing_begins, offer_stands, offers_begin, WaysOut, AroundSees, InsideSees, within_inside, exit_sees, loop_sees, for_sees, stubs_see}
 
 unit_of : (ts : List TaskPlan) (n : ℕ) → slice_index_or (map body_of ts) n 0 ≡ (slice_index_or ts n no_task).unit
@@ -27,6 +29,11 @@ unit_of [] zero = refl
 unit_of [] (suc n) = refl
 unit_of (t ∷ ts) zero = refl
 unit_of (t ∷ ts) (suc n) = unit_of ts n
+
+frames_there : (plan : Plan) (es : List EntryPlan) (n : ℕ) → n < length es → slice_get (map (frames_before plan) es) n ≡ Some (parts.unit_of plan (slice_index_or es n no_entry_plan).unit).level
+frames_there plan [] n h = absurd (omega (arith, h))
+frames_there plan (e ∷ es) zero h = refl
+frames_there plan (e ∷ es) (suc n) h = frames_there plan es n (omega (arith, h))
 
 -- a call of an entry opens no frame
 call_inside : (c : Callee) (entry : ℕ) (form : CallForm) (n : ℕ) → inside (call_end c entry form) n ≡ n
@@ -38,9 +45,9 @@ module _ (program : Program) (seen : List ℕ) where
   pub record LineSeen (at : ℕ) (l : Line) : Type 0 where
     pub frames : ℕ
     pub written : (j : ℕ) → j ≤ length (instructions_by l.what) → slice_get seen (offset (code_of program).lines at + j) ≡ Some frames
-    pub names : AllOpen frames (instructions_by l.what)
+    pub names : StepOpen frames l.what
     pub within : WithinSees seen (within_moved (offset (code_of program).lines) l.within) frames
-    pub last : LastSees (flat_program program) (task_bodies program) seen (last_by (offset (code_of program).lines) l.what) frames (assembly.end_line (offset (code_of program).lines) l)
+    pub last : LastSees (flat_program program) (task_bodies program) (barrier_frames program) seen (last_by (offset (code_of program).lines) l.what) frames (assembly.end_line (offset (code_of program).lines) l)
 
   pub data EachSeen : ℕ → List Line → Type 0 where
     no_lines : {at : ℕ} → EachSeen at []
@@ -52,9 +59,12 @@ module _ (program : Program) (seen : List ℕ) where
       let same : at + n ≡ suc at + length ls = omega (arith, e) in
       one_and h (joined ls b (suc at) (length ls) refl hs (subst (λ m. EachSeen m b) same k))
 
-module _ (program : Program) (seen : List ℕ) (base : ℕ) (entries : List Entry) (calls : (u : ℕ) → u < length entries → slice_get seen (start_at (flat_program program) u) ≡ Some (suc (length (entry_of entries u).outer))) where
+module _ (program : Program) (seen : List ℕ) (base : ℕ) (entries : List Entry) (calls : (u : ℕ) → u < length entries → slice_get seen (start_at (flat_program program) u) ≡ Some (suc (length (entry_of entries u).outer))) (levels : (u : ℕ) → (parts.unit_of program.plan u).level ≡ length (entry_of entries u).outer) where
   abbrev T : List ℕ
   T = task_bodies program
+
+  abbrev B : List ℕ
+  B = barrier_frames program
 
   abbrev G : ℕ → ℕ
   G = offset (code_of program).lines
@@ -87,21 +97,34 @@ module _ (program : Program) (seen : List ℕ) (base : ℕ) (entries : List Entr
       let m = length (entry_of entries u).outer in
       is_written (slice_get seen (start_at (flat_program program) u)) (suc m) (λ k. (1 ≤ k) × (k ≤ suc n)) (calls u there) (omega arith, omega (arith, long, e))
 
-  call_sees : (c : Callee) (entry : ℕ) (form : CallForm) (n : ℕ) (scope : Scope) → CalleeScoped c scope → EndingSees (flat_program program) T seen (call_end c entry form) n
-  call_sees (of_task t) entry form n scope h = tt
-  call_sees (of_object v) entry form n scope h = absurd h
+  -- an operation's body, around whose object so many are open
+  entered_around : (u n : ℕ) (scope : Scope) → length scope ≡ n → u < length entries → length (entry_of entries u).outer ≤ suc (length scope) → BodySees seen (suc n) (start_at (flat_program program) u)
+  entered_around u n scope e there long =
+      let m = length (entry_of entries u).outer in
+      is_written (slice_get seen (start_at (flat_program program) u)) (suc m) (λ k. (1 ≤ k) × (k ≤ suc (suc n))) (calls u there) (omega arith, omega (arith, long, e))
 
-  ending_sees : (s : Statement) (n : ℕ) (declares : Bool) (scope : Scope) → length scope ≡ n → Scoped s scope → StatementDeclares declares s → Creates declares s n → EndingSees (flat_program program) T seen (ending_of s) n
+  object_open : (v : Variable) (n : ℕ) (scope : Scope) → length scope ≡ n → IsElaborated v scope → v.level < n
+  object_open v n scope e h = subst (λ m. v.level < m) e (variable_open v scope h)
+
+  -- the barrier of an entry that is called, around whose object so many are open
+  asked_around : (entry n : ℕ) (scope : Scope) → length scope ≡ n → entry < length program.plan.entries → length (entry_of entries (entry_unit program.plan entry)).outer ≤ suc (length scope) → BarrierSees B n entry
+  asked_around entry n scope e there long =
+      let u = entry_unit program.plan entry in
+      is_written (slice_get B entry) (parts.unit_of program.plan u).level (λ k. k ≤ suc n) (frames_there program.plan program.plan.entries entry there) (omega (arith, long, e, levels u))
+
+  call_sees : (c : Callee) (entry : ℕ) (form : CallForm) (n : ℕ) (scope : Scope) → length scope ≡ n → entry < length program.plan.entries → CalleeScoped c scope → BodyAround program.plan entries c entry scope → EndingSees (flat_program program) T B seen (call_end c entry form) n
+  call_sees (of_task t) entry form n scope e there h around = tt
+  call_sees (of_object v) entry form n scope e there h around =
+      (object_open v n scope e h, asked_around entry n scope e there (around_long (entry_of entries (entry_unit program.plan entry)).outer scope around.1))
+
+  ending_sees : (s : Statement) (n : ℕ) (declares : Bool) (scope : Scope) → length scope ≡ n → Scoped s scope → StatementDeclares declares s → Creates declares s n → EndingSees (flat_program program) T B seen (ending_of s) n
   ending_sees (declare_tasks at ts) n declares scope e sc dc cr =
       let c = cr dc in
       let u = (task_of program.plan ts).unit in
       subst (λ k. BodySees seen n (start_at (flat_program program) k)) (sym (unit_of program.plan.tasks ts.task_type)) (entered u n c.0 c.1 c.2.1 (open_long (entry_of entries u).outer c.0 c.2.3))
   ending_sees (procedure_call at c) n declares scope e sc dc cr = entered c.unit n scope e sc.0 (open_long (entry_of entries c.unit).outer scope sc.2)
-  ending_sees (declare_object at k es) n declares scope e sc dc cr = absurd sc
-  ending_sees (return_value at x) n declares scope e sc dc cr = absurd sc
-  ending_sees (own_entry_call at es form) n declares scope e sc dc cr = absurd sc
-  ending_sees (operation_call at v c) n declares scope e sc dc cr = absurd sc
-  ending_sees (entry_call at c p q) n declares scope e sc dc cr = call_sees c.callee c.entry c.form n scope sc.0.1
+  ending_sees (operation_call at v c) n declares scope e sc dc cr = (object_open v n scope e sc.0, entered_around c.unit n scope e sc.1.0 (around_long (entry_of entries c.unit).outer scope sc.1.2))
+  ending_sees (entry_call at c p q) n declares scope e sc dc cr = call_sees c.callee c.entry c.form n scope e sc.0.0 sc.0.1 sc.0.4
   ending_sees (abort at ts) n declares scope e sc dc cr = absurd sc
   ending_sees s n declares scope e sc dc cr = tt
 
@@ -139,7 +162,7 @@ module _ (program : Program) (seen : List ℕ) (base : ℕ) (entries : List Entr
 
   -- the end of a construct, wherever it stands
   abbrev EndSees : Construct → ℕ → ℕ → Option ℕ → ℕ → Type 0
-  EndSees c next out w n = (pos : Pos) → LastSees (flat_program program) T seen (last_by G (end_line c pos next out w).what) n (assembly.end_line G (end_line c pos next out w))
+  EndSees c next out w n = (pos : Pos) → LastSees (flat_program program) T B seen (last_by G (end_line c pos next out w).what) n (assembly.end_line G (end_line c pos next out w))
 
   -- the step of an accept or of a selective accept, of which exceptions go to out
   record Opens (opener n out : ℕ) : Type 0 where
@@ -229,7 +252,8 @@ module _ (program : Program) (seen : List ℕ) (base : ℕ) (entries : List Entr
         one_and (own_line (exit pos m c) (next ∷ []) (Some (slice_index_or a.exits m (record { to = next; loops = 0 }))) a [] at n declares scope e sc dc cr st here (k, tt) (exit_sees program T seen base a.exits m next n i.exits k) i.out) no_lines
     statement_sees (return pos) at next a n declares scope e sc dc cr st here k i =
         one_and (own_line (return pos) (next ∷ []) (Some a.back) a [] at n declares scope e sc dc cr st here (k, tt) i.back i.out) no_lines
-    statement_sees (return_value pos x) at next a n declares scope e sc dc cr st here k i = absurd sc
+    statement_sees (return_value pos x) at next a n declares scope e sc dc cr st here k i =
+        one_and (own_line (return_value pos x) (next ∷ []) (Some a.back) a [] at n declares scope e sc dc cr st here (k, tt) i.back i.out) no_lines
     statement_sees (entry_call pos c p q) at next a n declares scope e sc dc cr st here k i =
         let size = part_size p (ways_count a) in
         let second = suc at + size in

@@ -1,14 +1,16 @@
 -- The code of a program is sound.
 use Rattle.std.proofs.Common.{◌≡◌, ℕ, zero, suc, ◌+◌, ◌≤◌, List, [], ◌∷◌, ◌++◌, length, map, slice_get, Option, Some, None, sym, ap, subst, arith, length-append}
-use Rattle.aud_typed.specs.Tree.{Body, Program}
+use Rattle.aud_typed.specs.Tree.{Body, BooleanExpression, Program}
 use Rattle.aud_layout.specs.Layout.{What, does, continues, guards, ends, leaves, Line, body_size, unit_code, units_code, starts_from, spare_from, code_of}
 use Rattle.aud_code.specs.Places.{Way, Guard}
 use Rattle.aud_layout.proofs.Standing.Places.{length-unit}
-use Rattle.aud_code.specs.Instruction.{Instruction}
-use Rattle.aud_code.specs.Flat.{EndLine, FlatLine, instructs, end}
+use Rattle.aud_code.specs.Instruction.{Instruction, If}
+use Rattle.aud_code.specs.Flat.{Does, EndLine, FlatLine, instructs, end}
 use Rattle.aud_layout.specs.Assembly.{offset, guard_moved, last_by, way_moved, end_line, instructions_by, assembled_from, flat_program}
-use Rattle.aud_code.specs.Sound.{IsStart, EachStart, WayStart, GuardsStart, LastLeads, Leads, IsSound}
+use Rattle.aud_code.specs.Sound.{no_counts, LastFine, IsStart, EachStart, WayStart, GuardsStart, LastLeads, Leads, AllDecide, IsSound}
+use Rattle.aud_layout.specs.Instructions.{condition_code}
 use Rattle.aud_layout.specs.Activations.{ActivatesInParts}
+use Rattle.aud_layout.proofs.Flat.Made.{whole_code, fine_condition}
 use Rattle.aud_layout.proofs.Flat.Starting.{starts_fine}
 use Rattle.aud_layout.proofs.Flat.Within.{PlacesIn, WayIn, GuardsIn, WhatIn, LineIn, LinesIn, one_and}
 use Rattle.aud_layout.proofs.Flat.Beginning.{places_within, begins}
@@ -76,6 +78,10 @@ spare_in T (b ∷ bs) at h =
     let m = length-append (unit_code b at) (units_code bs next) in
     spare_in T bs next (omega (arith, h, n, m))
 
+all_decide : (bs : List BooleanExpression) → AllDecide (map condition_code bs)
+all_decide [] = tt
+all_decide (b ∷ bs) = (whole_code (LastFine (Does If)) (condition_code b) no_counts (fine_condition (LastFine (Does If)) b [] no_counts tt), all_decide bs)
+
 pub code_is_sound : (program : Program) → ActivatesInParts program → IsSound (flat_program program)
 code_is_sound program activates =
     let lines = (code_of program).lines in
@@ -89,4 +95,5 @@ code_is_sound program activates =
       starts = (each f T X (λ k h. begins f lines k h) (starts_from program.bodies 0) (starts_in T program.bodies 0 all), begins f lines (spare_from program.bodies 0) (spare_in T program.bodies 0 all));
       frames = each_fits program;
       framed = bodies_framed program;
+      barriers = all_decide program.barriers;
     }

@@ -4,8 +4,8 @@ use Rattle.aud_typed.specs.Tree as tree
 use Rattle.aud_typed.specs.Tree.{IntegerExpression, number, variable, element, unary, binary, count, Reference, scalar, component, TaskName, single, indexed, BooleanExpression, truth, stored, negation, relation, comparison, logical, and_then, or_else, callable, terminated, ValueExpression, whole, boolean, TextExpression, literal, image, image_truth, join, new_line, DelayExpression, milliseconds, seconds, Argument, by_value, by_copy, CallForm, plainly, conditionally, timed, Callee, of_task, of_object, Statement, sequence, declare, declare_array, declare_tasks, declare_object, activated, activate, null, assign, put, if_then, plain_loop, while_loop, for_loop, exit, return, return_value, raising, raising_again, block, procedure_call, own_entry_call, operation_call, entry_call, delay, accept, select, abort, Alternatives, no_alternatives, accepting, delaying, terminating, Program}
 use Rattle.aud_meaning.specs.Statements.{region_of}
 use Rattle.aud_meaning.specs.Evaluation.{nearest_zero}
-use Rattle.aud_code.specs.Instruction.{Instruction, Push, Load, LoadElement, OnOne, OnTwo, Count, Check, Cell, PushTruth, Truth, Negate, Relate, Compare, Combine, PassIfFalse, PassIfTrue, IsCallable, IsTerminated, Find, FindElement, LoadFound, Pass, PassCopy, AppendText, AppendImage, AppendTruth, AppendNewLine, Name, Milliseconds, Seconds, BeginObject, Component, OpensAccept, OpensDelay, OpensTerminate, Mark, PassUnlessNext, SetTime, Ending}
-use Rattle.aud_code.specs.Flat.{EndLine, FlatLine, instructs, end, instructions_from}
+use Rattle.aud_code.specs.Instruction.{Instruction, Push, Load, LoadElement, OnOne, OnTwo, Count, Check, Cell, PushTruth, Truth, Negate, Relate, Compare, Combine, PassIfFalse, PassIfTrue, IsCallable, IsTerminated, Find, FindElement, LoadFound, Pass, PassCopy, AppendText, AppendImage, AppendTruth, AppendNewLine, Name, Milliseconds, Seconds, BeginObject, Component, OpensAccept, OpensDelay, OpensTerminate, Mark, PassUnlessNext, SetTime, Ending, If}
+use Rattle.aud_code.specs.Flat.{Last, Does, EndLine, FlatLine, instructs, end, instructions_from}
 use Rattle.aud_code.specs.Sound.{Counts, no_counts, AndThen, InstructionFine, EndingFine, LastFine}
 use Rattle.aud_code.specs.Tabled.{LeadsTo, BeginsWithNone, Tabled, IsTabled, behind, table_from, table_of}
 use Rattle.aud_layout.specs.Layout.{What, does, continues, guards, ends, leaves, Line, code_of}
@@ -287,3 +287,9 @@ pub code_is_tabled : (program : Program) → IsTabled (flat_program program).lin
 code_is_tabled program =
     let lines = (code_of program).lines in
     (begins_with_none (offset lines) (flat_program program).lines, lines_fit (offset lines) lines)
+
+-- and that of a condition by itself, whose truth value an ending takes
+pub condition_tabled : (e : BooleanExpression) (l : EndLine) → l.last ≡ Does If → IsTabled (map instructs (condition_code e) ++ end l ∷ []) (table_of (map instructs (condition_code e) ++ end l ∷ []))
+condition_tabled e l is =
+    let fine : LastFine l.last (truth_more no_counts) = subst (λ (last : Last). LastFine last (truth_more no_counts)) (sym is) tt in
+    (begins_with_none (λ n. n) (map instructs (condition_code e) ++ end l ∷ []), (made_condition e no_counts).fits (end l ∷ []) tt ((fine, tt), tt))

@@ -1,5 +1,5 @@
 -- Trees of declarations and statements in memory, as items of the reading.
-use Rattle.std.specs.Prelude.{List, [], ◌∷◌, Bool, Option, Some, None, Box, Vec}
+use Rattle.std.specs.Prelude.{List, [], ◌∷◌, map, Bool, Option, Some, None, Box, Vec}
 use Rattle.std.specs.Global.{Global}
 use Rattle.aud_text.specs.declared.place.Pos.{Pos}
 use Rattle.aud_syntax.specs.declared.tree.Ident.{Ident}
@@ -9,6 +9,9 @@ use Rattle.aud_syntax.specs.declared.tree.Expression.{Expression}
 use Rattle.aud_syntax.specs.declared.tree.Formal.{Formal}
 use Rattle.aud_syntax.specs.declared.tree.EntryDeclaration.{EntryDeclaration}
 use Rattle.aud_syntax.specs.declared.tree.TaskDefinition.{TaskDefinition}
+use Rattle.aud_syntax.specs.declared.tree.Operation.{Operation}
+use Rattle.aud_syntax.specs.declared.tree.PrivateItem.{PrivateItem}
+use Rattle.aud_syntax.specs.declared.tree.OperationBody.{OperationBody}
 use Rattle.aud_syntax.specs.declared.tree.AcceptStatement.{AcceptStatement}
 use Rattle.aud_syntax.specs.declared.tree.Delay.{Delay}
 use Rattle.aud_syntax.specs.declared.tree.Alternative.{Alternative}
@@ -24,8 +27,8 @@ use Rattle.aud_syntax.specs.declared.tree.Handler.{Handler}
 use Rattle.aud_syntax.specs.declared.tree.Body.{Body}
 use Rattle.aud_syntax.specs.declared.tree.Unit as declared
 use Rattle.aud_syntax.specs.Plain as m
-use Rattle.aud_syntax.specs.Ties.View.{plain_expression, plain_maybe, plain_formal, plain_entry, plain_task_definition, plain_definition, plain_declaration, plain_declarations, plain_statement, plain_statements, plain_iteration, plain_choices, plain_body, plain_done, plain_accept, plain_others, plain_delay, plain_alternative, guarded_list, plain_other, plain_unit}
-use Rattle.aud_grammar.specs.Actions.{Item, an_ident, assigned, called, some_names, a_variable, a_constant, a_declaration, a_statement, some_statements, a_body, a_unit, an_arm, an_iteration, a_bound, an_index, an_array, a_formal, a_definition, a_task, a_declare, a_handler, an_entry, a_doing, an_accept, a_delay, an_alternative, further, an_otherwise}
+use Rattle.aud_syntax.specs.Ties.View.{plain_expression, plain_maybe, plain_formal, plain_entry, plain_task_definition, plain_definition, plain_operation, plain_private_item, plain_private, plain_operation_body, plain_declaration, plain_declarations, plain_statement, plain_statements, plain_iteration, plain_choices, plain_body, plain_done, plain_accept, plain_others, plain_delay, plain_alternative, guarded_list, plain_other, plain_unit}
+use Rattle.aud_grammar.specs.Actions.{Item, an_ident, assigned, called, some_names, a_variable, a_constant, a_declaration, a_statement, some_statements, a_body, a_unit, an_arm, an_iteration, a_bound, an_index, an_array, a_formal, a_definition, a_task, a_declare, a_handler, an_entry, an_operation, a_private_item, some_private, a_protected, an_operation_body, a_doing, an_accept, a_delay, an_alternative, further, an_otherwise}
 use Rattle.aud_cursor.specs.Ties.Items.{vec_item, opt_item, boxed_item}
 use Rattle.aud_parse_expr.specs.Ties.Items.{simple_item, expression_item}
 use Rattle.aud_parse.specs.Ties.Parts.{else_statements, unboxed}
@@ -72,6 +75,26 @@ definition_item x = a_definition (plain_task_definition x)
 -- whether a task type is declared, the name, and the definition, if there is one
 abbrev pub task_item : Bool × Ident × Option TaskDefinition → Item
 task_item x = a_task x.0 x.1 (plain_definition x.2)
+
+abbrev pub operation_item : Operation → Item
+operation_item x = an_operation (plain_operation x)
+
+abbrev pub private_item : PrivateItem → Item
+private_item x = a_private_item (plain_private_item x)
+
+-- what stands behind `private`
+abbrev pub hidden_item : Vec PrivateItem Global → Item
+hidden_item v = some_private (map plain_private_item v.items)
+
+-- the name of a protected object, its operations, what stands behind `private`, if it does, and the name behind `end`
+abbrev pub protected_item : ((Ident × Vec Operation Global) × Option (Vec PrivateItem Global)) × Option Ident → Item
+protected_item x = a_protected x.0.0.0 (map plain_operation x.0.0.1.items) (plain_private x.0.1) x.1
+
+abbrev pub operation_body_item : OperationBody → Item
+operation_body_item x = an_operation_body (plain_operation_body x)
+
+abbrev pub boxed_operation_body_item : Box OperationBody Global → Item
+boxed_operation_body_item b = operation_body_item b.value
 
 abbrev pub declaration_item : Declaration → Item
 declaration_item x = a_declaration (plain_declaration x)

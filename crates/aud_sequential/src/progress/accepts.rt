@@ -6,7 +6,7 @@ ghost use Rattle.aud_store.specs.Ties.Stored.{entered};
 ghost use Rattle.aud_sequential.specs.Steps.{on_stored};
 
 use crate::progress::Progress;
-use aud_store::stack::Purpose;
+use aud_store::purpose::Purpose;
 use aud_text::int32::Int32;
 use aud_text::place::Pos;
 use std::alloc::{AllocError, Global};

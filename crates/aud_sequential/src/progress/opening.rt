@@ -8,7 +8,7 @@ ghost use Rattle.aud_sequential.specs.Steps.{on_stored};
 
 use crate::progress::Progress;
 use crate::units::{place_of, region_of};
-use aud_store::stack::Purpose;
+use aud_store::purpose::Purpose;
 use aud_typed::program::Unit;
 use std::alloc::{AllocError, Global};
 

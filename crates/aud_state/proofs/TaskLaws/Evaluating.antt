@@ -49,23 +49,24 @@ module _ (ts : List Task) (p : Part Spot) (k : Kept) (os : List Object) (n : ℕ
 
     -- in a scene that sees what the task sees
     module _ (lent : List Task) (display : List ℕ) (frames : List Frame) (all : lent ≡ ts) (seen : display ≡ x.parked.stack.display) (framed : frames ≡ p.frames) where
-      in_sight : (s : Scene) (P : Scene → Type 0) (clock : ℕ) → s.sight ≡ sight_of n c → s.clock ≡ clock → InSight (facts_in (owns (map plain_task lent)) k.calls) clock display frames P → P s
-      in_sight s P clock sees shows h =
+      in_sight : (s : Scene) (P : Scene → Type 0) (clock objects : ℕ) → s.sight ≡ sight_of n c → s.clock ≡ clock → s.objects ≡ objects → InSight (facts_in (owns (map plain_task lent)) k.calls) clock objects display frames P → P s
+      in_sight s P clock objects sees shows counted h =
           h s
           (ap (λ (v : Sight). v.display) sees ∙ ap (λ (own : Own). own.display) (own_at ts p k os n x c within at is) ∙ sym seen)
           (ap (λ (v : Sight). v.frames) sees ∙ ap (λ (a : All Spot). a.shared.frames) (sym is) ∙ sym framed)
           (ap (λ (v : Sight). v.facts) sees ∙ ap (λ (a : All Spot). facts_of a) (sym is) ∙ ap (λ us. facts_in (owns (map plain_task us)) k.calls) (sym all))
           shows
+          counted
 
-    pub ends : (code : Flat) (clock : ℕ) (o : Operands) (e : Outcome) (lent : List Task) (display : List ℕ) (frames : List Frame) → lent ≡ ts → display ≡ x.parked.stack.display → frames ≡ p.frames → c.clock ≡ clock → InSight (facts_in (owns (map plain_task lent)) k.calls) clock display frames (λ s. ended e o ≡ evaluated_at code place s) → (t : TaskAt Spot) → slice_get c.tasks n ≡ Some t → ended e o ≡ evaluated_at code t.control.place (scene n c)
-    ends code clock o e lent display frames all seen framed shows h t is_that =
-        in_sight lent display frames all seen framed (scene n c) (λ s. ended e o ≡ evaluated_at code place s) clock refl shows h
+    pub ends : (code : Flat) (clock objects : ℕ) (o : Operands) (e : Outcome) (lent : List Task) (display : List ℕ) (frames : List Frame) → lent ≡ ts → display ≡ x.parked.stack.display → frames ≡ p.frames → c.clock ≡ clock → length c.shared.objects ≡ objects → InSight (facts_in (owns (map plain_task lent)) k.calls) clock objects display frames (λ s. ended e o ≡ evaluated_at code place s) → (t : TaskAt Spot) → slice_get c.tasks n ≡ Some t → ended e o ≡ evaluated_at code t.control.place (scene n c)
+    ends code clock objects o e lent display frames all seen framed shows counted h t is_that =
+        in_sight lent display frames all seen framed (scene n c) (λ s. ended e o ≡ evaluated_at code place s) clock objects refl shows counted h
         ∙ ap (λ m. evaluated_at code m (scene n c)) (place_of t is_that)
 
-    pub marks : (code : Flat) (o : Operands) (is_marked : Bool) (lent : List Task) (display : List ℕ) (frames : List Frame) → lent ≡ ts → display ≡ x.parked.stack.display → frames ≡ p.frames → InSight (facts_in (owns (map plain_task lent)) k.calls) 0 display frames (λ s. IsMarked is_marked o (evaluated_by true code place s)) → (t : TaskAt Spot) → slice_get c.tasks n ≡ Some t → IsMarked is_marked o (evaluated_by true code t.control.place (no_scene (sight_of n c)))
+    pub marks : (code : Flat) (o : Operands) (is_marked : Bool) (lent : List Task) (display : List ℕ) (frames : List Frame) → lent ≡ ts → display ≡ x.parked.stack.display → frames ≡ p.frames → InSight (facts_in (owns (map plain_task lent)) k.calls) 0 0 display frames (λ s. IsMarked is_marked o (evaluated_by true code place s)) → (t : TaskAt Spot) → slice_get c.tasks n ≡ Some t → IsMarked is_marked o (evaluated_by true code t.control.place (no_scene (sight_of n c)))
     marks code o is_marked lent display frames all seen framed h t is_that =
         let s = no_scene (sight_of n c) in
-        subst (λ m. IsMarked is_marked o (evaluated_by true code m s)) (place_of t is_that) (in_sight lent display frames all seen framed s (λ s. IsMarked is_marked o (evaluated_by true code place s)) 0 refl refl h)
+        subst (λ m. IsMarked is_marked o (evaluated_by true code m s)) (place_of t is_that) (in_sight lent display frames all seen framed s (λ s. IsMarked is_marked o (evaluated_by true code place s)) 0 0 refl refl refl h)
 
 pub nowhere : (ts : List Task) (p : Part Spot) (k : Kept) (os : List Object) (n : ℕ) (c : All Spot) → length ts ≤ n → all_of ts p k os ≡ c → (t : TaskAt Spot) → slice_get c.tasks n ≡ Some t → 0 ≡ t.control.place
 nowhere ts p k os n c beyond is t that = absurd (cc (sym (past plain_task ts n beyond) ∙ ap (λ (a : All Spot). slice_get a.tasks n) is ∙ that))

@@ -51,11 +51,11 @@ leaves_own o m (simply w) h = h
 leaves_own o m ending h = h ∙ sym (ap master_left_by (left_same o))
 leaves_own o m (selecting ones) h = h
 leaves_own o m (calling task entry) h = h
-leaves_own o m (starting object reading) h = absurd h
+leaves_own o m (starting object reading) h = h
 
 pub kind_own : (o : Own) (k : StepKind) (x : Coming) → IsOfKind (record { display = o.display; opened = o.opened }) k x → IsOfItsKind o k x
 kind_own o k (simply w) h = h
 kind_own o k ending h = h ∙ sym (ap end_kind_by (left_same o))
 kind_own o k (selecting ones) h = h
 kind_own o k (calling task entry) h = h
-kind_own o k (starting object reading) h = absurd h
+kind_own o k (starting object reading) h = h

@@ -1,15 +1,18 @@
 -- What is kept of the frames of a program, with those that are open of the task whose part lies there.
-use Rattle.std.specs.Prelude.{◌≡◌, ◌-◌, ℕ, suc, ℤ, pos, List, [], ◌∷◌, ◌++◌, length, min, take, drop, Option, Some, None, Bool, false, slice_index_or}
+use Rattle.std.specs.Prelude.{◌≡◌, ◌-◌, ℕ, suc, ℤ, pos, List, [], ◌∷◌, ◌++◌, length, min, take, drop, Option, Some, None, Bool, false, if◌then◌else◌, slice_index_or}
 use Rattle.aud_text.specs.declared.place.Pos.{Pos}
 use Rattle.aud_typed.specs.declared.program.Exception.{Exception}
-use Rattle.aud_meaning.specs.Configuration.{Frame, Back, Target, Opened, for_body, for_block, for_loop, for_procedure, for_operation, for_entry, for_accept}
+use Rattle.aud_meaning.specs.Configuration.{Frame, Back, Returning, Target, Opened, for_body, for_block, for_loop, for_procedure, for_operation, for_entry, for_accept}
 use Rattle.aud_meaning.specs.Configuration as meaning
-use Rattle.aud_meaning.specs.Effects.{innermost, is_loop, assigned}
+use Rattle.aud_meaning.specs.Effects.{innermost, is_inner, is_loop, assigned, sets_value}
 use Rattle.aud_meaning.specs.Ties.Stack.{Stack, on_innermost, opens_after, returning}
-use Rattle.aud_store.specs.declared.stack.Purpose.{Purpose}
-use Rattle.aud_store.specs.declared.stack.Purpose.TheVariants.{Accept, Body, Block, Loop, Procedure}
+use Rattle.aud_store.specs.declared.purpose.Purpose.{Purpose}
+use Rattle.aud_store.specs.declared.purpose.Purpose.TheVariants.{Accept, Body, Block, Entry, Loop, Operation, Procedure}
+use Rattle.aud_store.specs.declared.purpose.Returns.{Returns}
+use Rattle.aud_store.specs.declared.display.Replaced.{Replaced}
+use Rattle.aud_store.specs.declared.display.Replaced.TheVariants.{Among, Apart}
 use Rattle.aud_store.specs.declared.stack.Open.{Open}
-use Rattle.aud_store.specs.Ties.Display.{Display, seen, placed, put_back, stands}
+use Rattle.aud_store.specs.Ties.Display.{Display, seen, placed, put_back, set_apart, stands, stands_apart}
 use Rattle.aud_store.specs.Ties.Frames.{with_frame}
 
 -- all frames ever made, and those that are open
@@ -17,26 +20,33 @@ pub record Stored : Type 0 where
   pub frames : List Frame
   pub stack : Stack
 
--- a procedure's end copies these back
+-- what the end of a procedure or function does, by which these are copied back
+abbrev pub returning_by : Returns → List Back → Returning
+returning_by r backs = record { is_function = r.is_function; backs = backs; into = r.into; value = r.value }
+
+-- its end copies these back
 abbrev pub plain_purpose : Purpose → List Back → meaning.Purpose
 plain_purpose Body backs = for_body
 plain_purpose Block backs = for_block
 plain_purpose Loop backs = for_loop
-plain_purpose (Procedure level copies into) backs = for_procedure (returning backs into)
+plain_purpose (Procedure level r) backs = for_procedure (returning_by r backs)
+plain_purpose (Operation object r) backs = for_operation object (returning_by r backs)
+plain_purpose (Entry object call served resumed) backs = for_entry object call served resumed
 plain_purpose (Accept call) backs = for_accept call
 
 -- how many it copies back
 abbrev pub copies_of : Purpose → ℕ
-copies_of (Procedure level copies into) = copies
+copies_of (Procedure level r) = r.backs
+copies_of (Operation object r) = r.backs
 copies_of purpose = 0
 
 -- of the frames that are seen, those that are seen from a frame that is opened for this, and how many they are
 abbrev pub kept_by : Purpose → List ℕ → List ℕ
-kept_by (Procedure level copies into) seen = take level seen
+kept_by (Procedure level r) seen = take level seen
 kept_by purpose seen = seen
 
 abbrev pub kept_of : Purpose → ℕ → ℕ
-kept_of (Procedure level copies into) n = min level n
+kept_of (Procedure level r) n = min level n
 kept_of purpose n = n
 
 -- of copies of all calls, the last of which are the innermost frame's: those, and the others
@@ -56,13 +66,19 @@ plain_opened display [] backs = []
 plain_opened display (o ∷ os) backs =
     plain_open o (seen (put_back o.replaced display)) (own_backs o.purpose backs) ∷ plain_opened (put_back o.replaced display) os (outer_backs o.purpose backs)
 
--- it was opened behind what it sees of what was seen before, and knows what its number stands in place of
+-- it was opened behind what it sees of what was seen before, or behind frames of its own, and knows what its number stands in place of
+abbrev pub IsPlacedBy : Replaced → ℕ → Purpose → Display → Display → Type 0
+IsPlacedBy (Among number seen) frame p before display =
+    (display ≡ placed (kept_of p before.count) frame before) × (Among number seen ≡ stands (kept_of p before.count) before)
+IsPlacedBy (Apart base seen) frame p before display =
+    (numbers : List ℕ) × ((display ≡ set_apart numbers frame before) × (Apart base seen ≡ stands_apart before))
+
 abbrev pub IsPlaced : Open → Display → Display → Type 0
-IsPlaced o before display = (display ≡ placed (kept_of o.purpose before.count) o.frame before) × (o.replaced ≡ stands (kept_of o.purpose before.count) before)
+IsPlaced o before display = IsPlacedBy o.replaced o.frame o.purpose before display
 
 -- so it is with each, innermost first; before any was opened, all numbers were those of frames that were seen
 abbrev pub ArePlaced : Display → List Open → Type 0
-ArePlaced display [] = display.count ≡ length display.numbers
+ArePlaced display [] = (display.base ≡ 0) × (display.count ≡ length display.numbers)
 ArePlaced display (o ∷ os) = IsPlaced o (put_back o.replaced display) display × ArePlaced (put_back o.replaced display) os
 
 -- the innermost open frame
@@ -76,7 +92,7 @@ purpose_backs for_body = []
 purpose_backs for_block = []
 purpose_backs for_loop = []
 purpose_backs (for_procedure r) = r.backs
-purpose_backs (for_operation n r) = []
+purpose_backs (for_operation n r) = r.backs
 purpose_backs (for_entry n i s b) = []
 purpose_backs (for_accept i) = []
 
@@ -148,6 +164,31 @@ accepted_for purpose = None
 abbrev pub accepted_in : List Opened → List ℕ
 accepted_in [] = []
 accepted_in (o ∷ os) = accepted_by o.purpose (accepted_in os)
+
+-- the call of an accept or an entry body
+abbrev pub served_for : Purpose → Option ℕ
+served_for (Entry object call served resumed) = Some call
+served_for (Accept call) = Some call
+served_for purpose = None
+
+-- it is an entry body's, for another task's call
+abbrev pub is_served_for : Purpose → Bool
+is_served_for (Entry object call served resumed) = served
+is_served_for purpose = false
+
+-- a function's value waits for the end of its call
+abbrev pub with_value : ℤ → Purpose → Purpose
+with_value z (Procedure level r) = Procedure level (record r { value = Some z })
+with_value z (Operation object r) = Operation object (record r { value = Some z })
+with_value z purpose = purpose
+
+-- in the innermost of these that was not opened within another execution
+abbrev pub valued : ℤ → List Open → List Open
+valued z [] = []
+valued z (o ∷ os) = if is_inner (plain_purpose o.purpose []) then o ∷ valued z os else record o { purpose = with_value z o.purpose } ∷ os
+
+abbrev pub with_function_value : ℤ → Stack → Stack
+with_function_value z s = record s { opened = sets_value z s.opened }
 
 -- the calls for which a frame is open
 abbrev pub served_by : meaning.Purpose → List ℕ → List ℕ

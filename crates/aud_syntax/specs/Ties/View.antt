@@ -1,5 +1,7 @@
 -- The plain tree of a tree in memory.
-use Rattle.std.specs.Prelude.{List, [], ◌∷◌, map, Option, Some, None, Box}
+use Rattle.std.specs.Prelude.{List, [], ◌∷◌, map, Option, Some, None, Box, Vec}
+use Rattle.aud_text.specs.declared.place.Pos.{Pos}
+use Rattle.aud_syntax.specs.declared.tree.Ident.{Ident}
 use Rattle.std.specs.Global.{Global}
 use Rattle.aud_syntax.specs.declared.tree.Expression.{Expression, Alone, Connected'}
 use Rattle.aud_syntax.specs.declared.tree.Chain.{Chain, Row_of-Relation, end_of-Relation, more_of-Relation}
@@ -15,12 +17,22 @@ use Rattle.aud_syntax.specs.declared.tree.Multiplied.{Multiplied}
 use Rattle.aud_syntax.specs.declared.tree.Factor.{Factor}
 use Rattle.aud_syntax.specs.declared.tree.Primary.{Primary, Integer, Text, Name', Attribute', Group', Held-Primary-Attribute-2, None', Some'}
 use Rattle.aud_syntax.specs.declared.tree.Formal.{Formal}
-use Rattle.aud_syntax.specs.declared.tree.Declaration.{Declaration, Object, Constant, Array, Exception, Procedure', Task, TaskBody'}
+use Rattle.aud_syntax.specs.declared.tree.Declaration.{Declaration, Object, Constant, Array, Exception, Procedure', Task, TaskBody', Protected, ProtectedBody'}
 use Rattle.aud_syntax.specs.declared.tree.ProcedureDeclaration.{ProcedureDeclaration, ProcedureDeclaration', out-ProcedureDeclaration}
 use Rattle.aud_syntax.specs.declared.tree.EntryDeclaration.{EntryDeclaration}
 use Rattle.aud_syntax.specs.declared.tree.TaskDefinition.{TaskDefinition}
 use Rattle.aud_syntax.specs.declared.tree.TaskDeclaration.{TaskDeclaration}
 use Rattle.aud_syntax.specs.declared.tree.TaskBody as task
+use Rattle.aud_syntax.specs.declared.tree.ProtectedDeclaration.{ProtectedDeclaration}
+use Rattle.aud_syntax.specs.declared.tree.Operation.{Operation}
+use Rattle.aud_syntax.specs.declared.tree.Operation.TheVariants as operation
+use Rattle.aud_syntax.specs.declared.tree.PrivateItem.{PrivateItem}
+use Rattle.aud_syntax.specs.declared.tree.PrivateItem.TheVariants as private_item
+use Rattle.aud_syntax.specs.declared.tree.ProtectedBody as object
+use Rattle.aud_syntax.specs.declared.tree.ProtectedBody.{Row_of-OperationBody, end_of-OperationBody, more_of-OperationBody}
+use Rattle.aud_syntax.specs.declared.tree.OperationBody.{OperationBody, OperationBody', out-OperationBody}
+use Rattle.aud_syntax.specs.declared.tree.OperationKind.{OperationKind}
+use Rattle.aud_syntax.specs.declared.tree.OperationKind.TheVariants as operation_kind
 use Rattle.aud_syntax.specs.declared.tree.LoopParameter.{LoopParameter}
 use Rattle.aud_syntax.specs.declared.tree.Choices.{Choices}
 use Rattle.aud_syntax.specs.declared.tree.Choices.TheVariants as choices
@@ -158,6 +170,31 @@ plain_definition (Some x) = Some (plain_task_definition x)
 abbrev pub plain_task : TaskDeclaration → m.Declaration
 plain_task x = m.task x.at x.is_type x.name (plain_definition x.definition)
 
+-- RM 9.4(5)
+abbrev pub plain_operation : Operation → m.Operation
+plain_operation (operation.Entry x) = m.entry_operation (plain_entry x)
+plain_operation (operation.Procedure i formals) = m.procedure_operation i (map plain_formal formals.items)
+plain_operation (operation.Function i formals subtype) = m.function_operation i (map plain_formal formals.items) subtype
+
+-- RM 9.4(6)
+abbrev pub plain_private_item : PrivateItem → m.PrivateItem
+plain_private_item (private_item.Operation x) = m.private_operation (plain_operation x)
+plain_private_item (private_item.Components names subtype value) = m.components names.first names.others.items subtype (plain_maybe value)
+
+abbrev pub plain_private : Option (Vec PrivateItem Global) → Option (List m.PrivateItem)
+plain_private None = None
+plain_private (Some v) = Some (map plain_private_item v.items)
+
+-- RM 9.4(3, 4)
+abbrev pub plain_protected : ProtectedDeclaration → m.Declaration
+plain_protected x = m.protected x.at x.name (map plain_operation x.operations.items) (plain_private x.private_items) x.end_name
+
+-- the body of an operation, by its parts (RM 9.4(8))
+abbrev pub made_operation_body : OperationKind → Pos → Ident → List m.Formal → m.Declarations → m.Body → m.OperationBody
+made_operation_body (operation_kind.Entry barrier) at i formals declarations x = m.entry_body at i formals (plain_expression barrier) declarations x
+made_operation_body operation_kind.Procedure at i formals declarations x = m.procedure_body at i formals declarations x
+made_operation_body (operation_kind.Function subtype) at i formals declarations x = m.function_body at i formals subtype declarations x
+
 -- RM 5.5(4)
 abbrev pub plain_parameter : LoopParameter → m.Iteration
 plain_parameter x = m.for x.name x.reverse (plain_simple x.low) (plain_simple x.high)
@@ -187,6 +224,8 @@ abbrev mutual
   plain_declaration (Procedure' _ x) = plain_procedure x
   plain_declaration (Task x) = plain_task x
   plain_declaration (TaskBody' _ x) = plain_task_body x
+  plain_declaration (Protected x) = plain_protected x
+  plain_declaration (ProtectedBody' _ x) = plain_protected_body x
 
   pub plain_declaration_row : {n : _} → Row_of-Declaration n → m.Declarations
   plain_declaration_row end_of-Declaration = m.no_declarations
@@ -199,6 +238,17 @@ abbrev mutual
   -- RM 9.1(6)
   pub plain_task_body : task.TaskBody → m.Declaration
   plain_task_body (task.TaskBody' at i _ declarations x) = m.task_body at i (plain_declaration_row declarations) (plain_body x)
+
+  -- RM 9.4(7)
+  pub plain_protected_body : object.ProtectedBody → m.Declaration
+  plain_protected_body (object.ProtectedBody' at i _ bodies last) = m.protected_body at i (plain_operation_bodies bodies) last
+
+  pub plain_operation_bodies : {n : _} → Row_of-OperationBody n → m.OperationBodies
+  plain_operation_bodies end_of-OperationBody = m.no_bodies
+  plain_operation_bodies (more_of-OperationBody x xs) = m.more_bodies (plain_operation_body x) (plain_operation_bodies xs)
+
+  pub plain_operation_body : OperationBody → m.OperationBody
+  plain_operation_body (OperationBody' kind at i formals _ declarations x) = made_operation_body kind at i (map plain_formal formals.items) (plain_declaration_row declarations) (plain_body x)
 
   pub plain_statement : Statement → m.Statement
   plain_statement (Null at) = m.null at
@@ -282,6 +332,22 @@ abbrev pub plain_task_body_parts : task.TaskBody → m.Declaration
 plain_task_body_parts s =
     let x = task.out-TaskBody s in
     m.task_body x.at x.name (plain_declarations x.declarations.items) (plain_body x.body)
+
+-- RM 9.4(8)
+abbrev pub plain_operation_body_parts : OperationBody → m.OperationBody
+plain_operation_body_parts s =
+    let x = out-OperationBody s in
+    made_operation_body x.kind x.at x.name (map plain_formal x.formals.items) (plain_declarations x.declarations.items) (plain_body x.body)
+
+abbrev pub operation_body_list : List OperationBody → m.OperationBodies
+operation_body_list [] = m.no_bodies
+operation_body_list (x ∷ xs) = m.more_bodies (plain_operation_body x) (operation_body_list xs)
+
+-- RM 9.4(7)
+abbrev pub plain_protected_body_parts : object.ProtectedBody → m.Declaration
+plain_protected_body_parts s =
+    let x = object.out-ProtectedBody s in
+    m.protected_body x.at x.name (operation_body_list x.bodies.items) x.end_name
 
 abbrev pub plain_others : List Statement → m.MoreStatements
 plain_others [] = m.no_statements

@@ -8,7 +8,7 @@ use Rattle.aud_meaning.specs.Evaluation.{Sight}
 use Rattle.aud_meaning.specs.Parts.{own_of, sight_of}
 use Rattle.aud_meaning.specs.Statements.{coming_raised}
 use Rattle.aud_code.specs.declared.line.Among.TheVariants as among
-use Rattle.aud_code.specs.declared.line.Ending.TheVariants.{Declare, DeclareArray, Null, Assign, Put, If, While, Loop, Exit, Raise, RaiseAgain, Block, Return, Call}
+use Rattle.aud_code.specs.declared.line.Ending.TheVariants.{Declare, DeclareArray, Null, Assign, Put, If, While, Loop, Exit, Raise, RaiseAgain, Block, Return, ReturnValue, OwnCall, Call}
 use Rattle.aud_code.specs.declared.line.Last.{Last}
 use Rattle.aud_code.specs.declared.line.Last.TheVariants.{Does, Concerns, Continues, Guards, Ends, Leaves}
 use Rattle.aud_code.specs.Flat.{Flat, EndLine, coming_at, coming_last, end_at, handler_at, no_end}
@@ -42,10 +42,15 @@ module _ (plan : Plan) (s : Sight) (x : Ended) where
   told (Does (Block region inside) next) = (tt, tt)
   told (Does (Return w) next) = (tt, tt)
   told (Does (Call unit) next) = (tt, tt)
+  told (Does (ReturnValue w) next) = (tt, tt)
+  told (Does OwnCall next) = (tt, tt)
   told (Concerns (among.DeclareTasks ts) next) = (tt, tt)
+  told (Concerns (among.DeclareObject k) next) = (tt, tt)
   told (Concerns among.Activate next) = (tt, tt)
   told (Concerns among.Activated next) = (tt, tt)
   told (Concerns (among.Call entry form otherwise) next) = (refl, tt)
+  told (Concerns (among.CallObject v entry form otherwise) next) = (tt, tt)
+  told (Concerns (among.Operation v unit) next) = (tt, tt)
   told (Concerns among.Delay next) = (tt, tt)
   told (Concerns (among.Accept entry region body) next) = (tt, tt)
   told (Concerns (among.Select has_else own offers) next) = (refl, tt)
@@ -69,6 +74,8 @@ module _ (plan : Plan) (s : Sight) (x : Ended) where
   simple (Does (Block region inside) next) h = tt
   simple (Does (Return w) next) h = tt
   simple (Does (Call unit) next) h = tt
+  simple (Does (ReturnValue w) next) h = tt
+  simple (Does OwnCall next) h = tt
   simple (Concerns a next) h = absurd cc
   simple (Continues f behind inside) h = absurd cc
   simple (Guards gs) h = absurd cc
@@ -76,7 +83,7 @@ module _ (plan : Plan) (s : Sight) (x : Ended) where
   simple (Leaves n to) h = absurd cc
 
 module _ (plan : Plan) (code : Flat) (n : ℕ) (c : All Spot) where
-  coming_as : (o : Option (TaskAt Spot)) → slice_get c.tasks n ≡ o → coming_in plan code n c ≡ coming_by code plan (sight_of n c) o
+  pub coming_as : (o : Option (TaskAt Spot)) → slice_get c.tasks n ≡ o → coming_in plan code n c ≡ coming_by code plan (sight_of n c) o
   coming_as o is = ap (coming_by code plan (sight_of n c)) is
 
   -- what holds of a task that is there holds of each that is none
@@ -104,7 +111,7 @@ module _ (plan : Plan) (code : Flat) (n : ℕ) (c : All Spot) where
   none_pending (Some p) h = absurd cc
 
   module _ (quiet : is_some (own_of n c).pending ≡ false) where
-    at_end : (t : TaskAt Spot) → slice_get c.tasks n ≡ Some t → coming_at code plan t.own.pending (sight_of n c) t.control ≡ coming_last plan (end_at code t.control.place).last (sight_of n c) (marked code n t c)
+    pub at_end : (t : TaskAt Spot) → slice_get c.tasks n ≡ Some t → coming_at code plan t.own.pending (sight_of n c) t.control ≡ coming_last plan (end_at code t.control.place).last (sight_of n c) (marked code n t c)
     at_end t there =
         let none : t.own.pending ≡ None = none_pending t.own.pending (ap (λ (o : Own). is_some o.pending) (sym (own_there c.tasks n t there)) ∙ quiet) in
         ap (λ p. coming_at code plan p (sight_of n c) t.control) none
@@ -115,7 +122,7 @@ module _ (plan : Plan) (code : Flat) (n : ℕ) (c : All Spot) where
         subst IsSingle (sym (at_end t there ∙ ap (λ (l : EndLine). coming_last plan l.last (sight_of n c) (marked code n t c)) (ap (end_at code) (sym (stands t there)) ∙ none))) tt)
 
     module _ (place : ℕ) (l : Last) (stands : (t : TaskAt Spot) → slice_get c.tasks n ≡ Some t → place ≡ t.control.place) (ends : plain_last l ≡ (end_at code place).last) where
-      as_last : (t : TaskAt Spot) → slice_get c.tasks n ≡ Some t → coming_at code plan t.own.pending (sight_of n c) t.control ≡ coming_last plan (plain_last l) (sight_of n c) (marked code n t c)
+      pub as_last : (t : TaskAt Spot) → slice_get c.tasks n ≡ Some t → coming_at code plan t.own.pending (sight_of n c) t.control ≡ coming_last plan (plain_last l) (sight_of n c) (marked code n t c)
       as_last t there =
           at_end t there
           ∙ ap (λ k. coming_last plan (end_at code k).last (sight_of n c) (marked code n t c)) (sym (stands t there))

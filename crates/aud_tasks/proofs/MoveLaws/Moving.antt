@@ -1,9 +1,10 @@
 -- The moves of all tasks, task by task.
-use Rattle.std.proofs.Common.{◌≡◌, ◌<◌, ◌≤◌, ◌+◌, ℕ, zero, suc, List, [], ◌∷◌, ◌++◌, length, drop, map, get_or, Option, Some, None, Bool, true, false, if◌then◌else◌, slice_get, slice_index_or, add-one, append_assoc, refl, ap, sym, ◌∙◌, arith}
+use Rattle.std.proofs.Common.{◌≡◌, ◌<◌, ◌≤◌, ◌+◌, ℕ, zero, suc, List, [], ◌∷◌, ◌++◌, length, drop, map, get_or, Option, Some, None, Bool, true, false, Result, Ok, Err, if◌then◌else◌, slice_get, slice_index_or, add-one, append_assoc, refl, ap, sym, ◌∙◌, arith}
 use Rattle.std.proofs.lemmas.List.{at_drop_all, at_drop_more}
 use Rattle.std.proofs.lemmas.Option.{slice_get-get_or}
 use Rattle.std.specs.Prelude.{filter, nat_le, not, ◌&&◌, ◌||◌}
-use Rattle.aud_typed.specs.Tree.{Plan, ObjectPlan}
+use Rattle.aud_text.specs.declared.raise.Raise.{Raise}
+use Rattle.aud_typed.specs.Tree.{Plan}
 use Rattle.aud_meaning.specs.declared.state.Form.{Form}
 use Rattle.aud_meaning.specs.declared.state.Form.TheVariants.{Plain, Conditional, TimedTo}
 use Rattle.aud_meaning.specs.declared.state.Move.{Move}
@@ -13,13 +14,15 @@ use Rattle.aud_meaning.specs.declared.state.State.{State}
 use Rattle.aud_meaning.specs.declared.state.State.TheVariants as state
 use Rattle.aud_meaning.specs.Configuration.{Call, Own, Shared, TaskAt, All}
 use Rattle.aud_meaning.specs.Control.{Coming, Seen, simply, ending, selecting, calling, starting}
-use Rattle.aud_meaning.specs.Parts.{any, body_master, depends, in_the_way, is_queued, is_terminated, may_terminate, nobody, object_of, open_alternatives, own_of, owns, Closable}
+use Rattle.aud_meaning.specs.Parts.{any, body_master, depends, facts_in, in_the_way, is_queued, is_terminated, may_terminate, nobody, object_of, open_alternatives, own_of, owns, queue, Closable}
 use Rattle.aud_meaning.specs.Run.{acting_moves, alternatives_of, call_time, call_time_by, construct_left, each_or_one, end_moves, has_ended, has_queue, master_left_by, moves, moves_at, moves_by, moves_from, only, own_move, owner_idle, seen, seen_from, serve_moves, some_move, state_at, state_by, times_from, turn_at, turn_moves, turn_times, waiting_by}
-use Rattle.aud_meaning.specs.Tasks.{eligible, eligible_from}
+use Rattle.aud_meaning.specs.Tasks.{barrier_of, eligible, eligible_from, eligible_if, entries_of}
 use Rattle.aud_code.specs.Places.{Spot}
 use Rattle.aud_code.specs.Flat.{Flat, barrier_at, flat_controls}
 use Rattle.aud_state.specs.Reads.{cancelled_from, is_free, time_by, IsPlain, LeavesBy}
 use Rattle.aud_tasks.specs.declared.turn.Turn.{Turn}
+use Rattle.aud_tasks.specs.Choices.{IsNoStart}
+use Rattle.aud_tasks.specs.Enabled as told
 use Rattle.aud_tasks.specs.Moving.{alone_if, has_some, moves_behind, moves_of, times_of, IsNextMover, IsSimple, IsSingle}
 use Rattle.aud_tasks.specs.Turning.{coming_in, turn_in, turned}
 use Rattle.aud_tasks.proofs.StepLaws.Turning.{turn_plain}
@@ -83,10 +86,16 @@ module _ (plan : Plan) (code : Flat) where
   only_if true n = refl
   only_if false n = refl
 
-  -- the objects of a program that has none
-  pub serve_one : (object n : ℕ) (c : All Seen) → plan.objects ≡ [] → serve_moves plan (barrier_at code) (eligible plan (barrier_at code) object c) n ≡ own_move n ∷ []
-  serve_one object n c none =
-      ap (λ (os : List ObjectPlan). serve_moves plan (barrier_at code) (eligible_from plan (barrier_at code) 1 (slice_index_or os (object_of object c).declaration (record { name = []; entries = [] })).entries object c) n) none
+  -- one for each, as they are told
+  pub each_told : (numbers : List ℕ) (n : ℕ) → told.each_or_one n numbers ≡ serve_moves plan (barrier_at code) (Ok numbers) n
+  each_told [] n = refl
+  each_told (a ∷ more) n = refl
+
+  -- one that services an object always has some
+  pub serve_some : (entries : Result (List ℕ) Raise) (n : ℕ) → has_some (serve_moves plan (barrier_at code) entries n) ≡ true
+  serve_some (Err raise) n = refl
+  serve_some (Ok []) n = refl
+  serve_some (Ok (e ∷ es)) n = refl
 
   module _ (c : All Spot) where
     abbrev d : All Seen
@@ -204,38 +213,63 @@ module _ (plan : Plan) (code : Flat) where
     pub times_told : (n : ℕ) (x y : Turn) → turn_in plan code n c ≡ turned plan code n c x → x ≡ y → times_of plan code n c ≡ turn_times plan (barrier_at code) (turned plan code n c y) d
     times_told n x y h is = ap (λ u. turn_times plan (barrier_at code) u d) (h ∙ ap (turned plan code n c) is)
 
+    -- what is seen of an object's entries
+    eligible_from_seen : (i : ℕ) (es : List ℕ) (object : ℕ) → eligible_from plan (barrier_at code) i es object c ≡ eligible_from plan (barrier_at code) i es object d
+    eligible_from_seen i [] object = refl
+    eligible_from_seen i (e ∷ es) object =
+        ap (λ os. eligible_if (queue object e c.shared.calls) (barrier_at code e (record { display = (object_of object c).display; frames = c.shared.frames; facts = facts_in os c.shared.calls })) i (eligible_from plan (barrier_at code) (suc i) es object c)) (sym (owns_seen 0 c.tasks (owns c.tasks) c.shared))
+        ∙ ap (λ r. eligible_if (queue object e c.shared.calls) (barrier_of plan (barrier_at code) object e d) i r) (eligible_from_seen (suc i) es object)
+
+    pub eligible_seen : (object : ℕ) → eligible plan (barrier_at code) object c ≡ eligible plan (barrier_at code) object d
+    eligible_seen object = eligible_from_seen 1 (entries_of plan (barrier_at code) object c) object
+
     pub closes : (n : ℕ) → alone_if (Closable (body_master (own_of n c)) c) n ≡ only plan (barrier_at code) (Closable (body_master (own_of n d)) d) n
     closes n =
         only_if (Closable (body_master (own_of n c)) c) n
         ∙ ap (λ b. only plan (barrier_at code) b n) (sym (closable_seen (body_master (own_of n c))))
         ∙ ap (λ (o : Own). only plan (barrier_at code) (Closable (body_master o) d) n) (sym (own_seen n))
 
+    -- it ends a construct, or does not
+    abbrev LeavesOnly : Coming → Type 0
+    LeavesOnly (selecting ones) = ⊥
+    LeavesOnly (calling task entry) = ⊥
+    LeavesOnly (starting object reading) = ⊥
+    LeavesOnly next = Unit {0}
+
     -- of one that is at no choice
-    pub acting_as : (n : ℕ) (m : Option ℕ) (x : Coming) → LeavesBy (own_of n c) m x → IsSingle x → end_moves plan (barrier_at code) m n d ≡ acting_moves plan (barrier_at code) x n d
+    pub acting_as : (n : ℕ) (m : Option ℕ) (x : Coming) → LeavesBy (own_of n c) m x → LeavesOnly x → end_moves plan (barrier_at code) m n d ≡ acting_moves plan (barrier_at code) x n d
     acting_as n m (simply w) h single = ap (λ o. end_moves plan (barrier_at code) o n d) h
     acting_as n m ending h single =
         ap (λ o. end_moves plan (barrier_at code) o n d) h
         ∙ ap (λ (o : Own). end_moves plan (barrier_at code) (master_left_by (construct_left o)) n d) (sym (own_seen n))
     acting_as n m (selecting ones) h single = absurd single
     acting_as n m (calling task entry) h single = absurd single
-    acting_as n m (starting object reading) h single = absurd h
+    acting_as n m (starting object reading) h single = absurd single
 
     each_first : (numbers : List ℕ) (n : ℕ) → has_some (each_or_one plan (barrier_at code) numbers n) ≡ true
     each_first [] n = refl
     each_first (a ∷ more) n = refl
 
     -- one at a choice always has some
-    pub acting_first : (n : ℕ) (m : Option ℕ) (x : Coming) → LeavesBy (own_of n c) m x → has_some (end_moves plan (barrier_at code) m n d) ≡ has_some (acting_moves plan (barrier_at code) x n d)
-    acting_first n m (simply w) h = ap has_some (acting_as n m (simply w) h tt)
-    acting_first n m ending h = ap has_some (acting_as n m ending h tt)
-    acting_first n m (selecting ones) h =
+    pub acting_first : (n : ℕ) (m : Option ℕ) (x : Coming) → LeavesBy (own_of n c) m x → IsNoStart x → has_some (end_moves plan (barrier_at code) m n d) ≡ has_some (acting_moves plan (barrier_at code) x n d)
+    acting_first n m (simply w) h no_start = ap has_some (acting_as n m (simply w) h tt)
+    acting_first n m ending h no_start = ap has_some (acting_as n m ending h tt)
+    acting_first n m (selecting ones) h no_start =
         ap (λ o. has_some (end_moves plan (barrier_at code) o n d)) h
         ∙ sym (each_first (alternatives_of plan (barrier_at code) (filter (has_queue plan (barrier_at code) n d) ones)) n)
-    acting_first n m (calling None entry) h = ap (λ o. has_some (end_moves plan (barrier_at code) o n d)) h
-    acting_first n m (calling (Some task) entry) h =
+    acting_first n m (calling None entry) h no_start = ap (λ o. has_some (end_moves plan (barrier_at code) o n d)) h
+    acting_first n m (calling (Some task) entry) h no_start =
         ap (λ o. has_some (end_moves plan (barrier_at code) o n d)) h
         ∙ sym (each_first (alternatives_of plan (barrier_at code) (open_alternatives (own_of task d) entry)) n)
-    acting_first n m (starting object reading) h = absurd h
+    acting_first n m (starting object reading) h no_start = absurd no_start
+
+    first_only : (b : Bool) (n : ℕ) → b ≡ has_some (only plan (barrier_at code) b n)
+    first_only true n = refl
+    first_only false n = refl
+
+    -- one at a call of an object has one where no action is in the way
+    pub starts_first : (n object : ℕ) (reading : Bool) → not (in_the_way n reading (object_of object c)) ≡ has_some (acting_moves plan (barrier_at code) (starting object reading) n d)
+    starts_first n object reading = first_only (not (in_the_way n reading (object_of object c))) n
 
     pub some_only : (b : Bool) (n : ℕ) → b ≡ has_some (alone_if b n)
     some_only true n = refl

@@ -2,20 +2,20 @@
 -- guards and names depend on variables; then they have some moves all the same.
 use Rattle.std.proofs.Common.{◌≡◌, ◌+◌, ℕ, zero, suc, List, [], ◌∷◌, ◌++◌, drop, Option, Some, None, Bool, true, false, not, ◌&&◌, ◌||◌, if◌then◌else◌, map, refl, ap, sym, subst, ◌∙◌, arith}
 use Rattle.std.proofs.lemmas.Option.{same_Some}
-use Rattle.std.specs.Prelude.{Result, Ok, filter, nat_le, slice_get, slice_index_or}
+use Rattle.std.specs.Prelude.{Result, filter, nat_le, slice_get, slice_index_or}
 use Rattle.aud_text.specs.declared.raise.Raise.{Raise}
-use Rattle.aud_typed.specs.Tree.{Plan, ObjectPlan}
+use Rattle.aud_typed.specs.Tree.{Plan}
 use Rattle.aud_meaning.specs.declared.state.Move.{Move}
 use Rattle.aud_meaning.specs.declared.state.Status.{Status}
 use Rattle.aud_meaning.specs.declared.state.Status.TheVariants.{Created, Running, Activating, Accepting, Delaying, Calling, Completed, Terminated}
 use Rattle.aud_meaning.specs.declared.state.Owner.{Owner}
 use Rattle.aud_meaning.specs.declared.state.Owner.TheVariants as owner
 use Rattle.aud_meaning.specs.declared.state.Serving.{Serving}
-use Rattle.aud_meaning.specs.Configuration.{Call, Frame, Own, TaskAt, All}
+use Rattle.aud_meaning.specs.Configuration.{Call, Frame, Object, Own, TaskAt, All}
 use Rattle.aud_meaning.specs.Evaluation.{Sight}
 use Rattle.aud_meaning.specs.Control.{Seen, Coming, simply, ending, selecting, calling, starting}
-use Rattle.aud_meaning.specs.Parts.{nobody, own_of, call_of, object_of, is_queued, owns, any, depends, may_terminate, Closable, body_master, in_action, open_alternatives}
-use Rattle.aud_meaning.specs.Tasks.{eligible, eligible_from}
+use Rattle.aud_meaning.specs.Parts.{nobody, no_object, in_the_way, own_of, call_of, is_queued, owns, any, depends, may_terminate, Closable, body_master, in_action, open_alternatives}
+use Rattle.aud_meaning.specs.Tasks.{eligible}
 use Rattle.aud_meaning.specs.Run.{Turn, own_move, only, owner_idle, call_time_by, call_time, end_moves, each_or_one, alternatives_of, has_queue, acting_moves, master_left_by, construct_left, is_leave, is_bound, Deferred, at_once, serve_moves, usual, under_way, turn_by, turn, turn_at, turn_moves, moves_from, has_ended, moves_by, moves}
 use Rattle.aud_tasks.specs.Running.{is_acting}
 use Rattle.aud_tasks.proofs.Running.Whose.{AreOf, moves_of}
@@ -26,31 +26,32 @@ pub data SameOr (Other Same : Type 0) : Type 0 where
   differs : Other → SameOr Other Same
 
 -- what comes next is of the same sort in both: both leave a construct, or neither does. What is open in a select, and who is called,
--- may differ of some tasks
-abbrev pub AreAlike : Type 0 → Coming → Coming → Type 0
-AreAlike Other (simply w) (simply v) = Unit {0}
-AreAlike Other ending ending = Unit {0}
-AreAlike Other (selecting xs) (selecting ys) = SameOr Other (xs ≡ ys)
-AreAlike Other (calling t x) (calling u y) = SameOr Other ((t ≡ u) × (x ≡ y))
-AreAlike Other x y = x ≡ y
+-- may differ of some tasks; which object is called, where all are free
+abbrev pub AreAlike : (Free Other : Type 0) → Coming → Coming → Type 0
+AreAlike Free Other (simply w) (simply v) = Unit {0}
+AreAlike Free Other ending ending = Unit {0}
+AreAlike Free Other (selecting xs) (selecting ys) = SameOr Other (xs ≡ ys)
+AreAlike Free Other (calling t x) (calling u y) = SameOr Other ((t ≡ u) × (x ≡ y))
+AreAlike Free Other (starting o r) (starting p q) = SameOr Free ((o ≡ p) × (r ≡ q))
+AreAlike Free Other x y = x ≡ y
 
-pub alike_self : (Other : Type 0) (x : Coming) → AreAlike Other x x
-alike_self Other (simply w) = tt
-alike_self Other ending = tt
-alike_self Other (selecting xs) = stays refl
-alike_self Other (calling t x) = stays (refl, refl)
-alike_self Other (starting object reading) = refl
+pub alike_self : (Free Other : Type 0) (x : Coming) → AreAlike Free Other x x
+alike_self Free Other (simply w) = tt
+alike_self Free Other ending = tt
+alike_self Free Other (selecting xs) = stays refl
+alike_self Free Other (calling t x) = stays (refl, refl)
+alike_self Free Other (starting object reading) = stays (refl, refl)
 
 -- the same task, elsewhere in its code
-pub record AlikeTask (Other : Type 0) (t u : TaskAt Seen) : Type 0 where
+pub record AlikeTask (Free Other : Type 0) (t u : TaskAt Seen) : Type 0 where
   pub own : t.own ≡ u.own
-  pub coming : AreAlike Other t.control.coming u.control.coming
+  pub coming : AreAlike Free Other t.control.coming u.control.coming
 
 -- from a number on
-abbrev pub AlikeTasks : (ℕ → Type 0) → ℕ → List (TaskAt Seen) → List (TaskAt Seen) → Type 0
-AlikeTasks Other n [] [] = Unit {0}
-AlikeTasks Other n (t ∷ ts) (u ∷ us) = AlikeTask (Other n) t u × AlikeTasks Other (suc n) ts us
-AlikeTasks Other n ts us = ⊥
+abbrev pub AlikeTasks : (Free : Type 0) → (ℕ → Type 0) → ℕ → List (TaskAt Seen) → List (TaskAt Seen) → Type 0
+AlikeTasks Free Other n [] [] = Unit {0}
+AlikeTasks Free Other n (t ∷ ts) (u ∷ us) = AlikeTask Free (Other n) t u × AlikeTasks Free Other (suc n) ts us
+AlikeTasks Free Other n ts us = ⊥
 
 -- Moves that are the same, or of which both have some.
 abbrev pub HasSome : List Move → Type 0
@@ -84,20 +85,27 @@ head_of x y xs ys h = same_Some x y (ap (λ l. slice_get l 0) h)
 tail_of : (x y : Move) (xs ys : List Move) → x ∷ xs ≡ y ∷ ys → xs ≡ ys
 tail_of x y xs ys h = ap (drop 1) h
 
-pub owns_alike : (Other : ℕ → Type 0) (n : ℕ) (ts us : List (TaskAt Seen)) → AlikeTasks Other n ts us → owns ts ≡ owns us
-owns_alike Other n [] [] h = refl
-owns_alike Other n [] (u ∷ us) h = absurd h
-owns_alike Other n (t ∷ ts) [] h = absurd h
-owns_alike Other n (t ∷ ts) (u ∷ us) h = ap (λ o. o ∷ owns ts) h.0.own ∙ ap (λ os. u.own ∷ os) (owns_alike Other (suc n) ts us h.1)
+pub owns_alike : (Free : Type 0) (Other : ℕ → Type 0) (n : ℕ) (ts us : List (TaskAt Seen)) → AlikeTasks Free Other n ts us → owns ts ≡ owns us
+owns_alike Free Other n [] [] h = refl
+owns_alike Free Other n [] (u ∷ us) h = absurd h
+owns_alike Free Other n (t ∷ ts) [] h = absurd h
+owns_alike Free Other n (t ∷ ts) (u ∷ us) h = ap (λ o. o ∷ owns ts) h.0.own ∙ ap (λ os. u.own ∷ os) (owns_alike Free Other (suc n) ts us h.1)
 
 any_owns : (f : Own → Bool) (ts : List (TaskAt Seen)) → any (λ (t : TaskAt Seen). f t.own) ts ≡ any f (owns ts)
 any_owns f [] = refl
 any_owns f (t ∷ ts) = ap (λ b. f t.own || b) (any_owns f ts)
 
--- with other frames and other choices, after other steps; objects have no entries
-module _ (plan : Plan) (barrier : ℕ → Sight → Result Bool Raise) (no_objects : plan.objects ≡ []) (d : All Seen) (us : List (TaskAt Seen)) (frames : List Frame) (choices : List ℕ) (steps : ℕ) (same : owns d.tasks ≡ owns us) where
+-- with other frames and other choices, after other steps
+abbrev pub elsewhere : List (TaskAt Seen) → List Frame → List ℕ → ℕ → All Seen → All Seen
+elsewhere us frames choices steps d = record d { tasks = us; shared = record d.shared { frames = frames }; choices = choices; steps = steps }
+
+-- the entries of each object that are eligible are the same in both
+abbrev pub ServesAlike : Plan → (ℕ → Sight → Result Bool Raise) → All Seen → All Seen → Type 0
+ServesAlike plan barrier d e = (object : ℕ) → eligible plan barrier object d ≡ eligible plan barrier object e
+
+module _ (plan : Plan) (barrier : ℕ → Sight → Result Bool Raise) (Free : Type 0) (d : All Seen) (free : Free → d.shared.objects ≡ []) (us : List (TaskAt Seen)) (frames : List Frame) (choices : List ℕ) (steps : ℕ) (serves : ServesAlike plan barrier d (elsewhere us frames choices steps d)) (same : owns d.tasks ≡ owns us) where
   abbrev e : All Seen
-  e = record d { tasks = us; shared = record d.shared { frames = frames }; choices = choices; steps = steps }
+  e = elsewhere us frames choices steps d
 
   closable : (master : ℕ) → Closable master d ≡ Closable master e
   closable master =
@@ -129,7 +137,11 @@ module _ (plan : Plan) (barrier : ℕ → Sight → Result Bool Raise) (no_objec
   call_some None entry n c = tt
   call_some (Some task) entry n c = each_some (alternatives_of plan barrier (open_alternatives (own_of task c) entry)) n
 
-  alike_there : (Other : Type 0) (x y : Coming) (n : ℕ) → AreAlike Other x y → AgreeMoves Other (acting_moves plan barrier x n d) (acting_moves plan barrier y n e)
+  -- no action is in the way where there are no objects
+  starts_free : (object : ℕ) (reading : Bool) (n : ℕ) → d.shared.objects ≡ [] → acting_moves plan barrier (starting object reading) n d ≡ own_move n ∷ []
+  starts_free object reading n none = ap (λ (os : List Object). only plan barrier (not (in_the_way n reading (slice_index_or os object no_object))) n) none
+
+  alike_there : (Other : Type 0) (x y : Coming) (n : ℕ) → AreAlike Free Other x y → AgreeMoves Other (acting_moves plan barrier x n d) (acting_moves plan barrier y n e)
   alike_there Other (simply w) (simply v) n h = same_moves refl
   alike_there Other ending ending n h = same_moves (coming_there ending n)
   alike_there Other (selecting xs) (selecting ys) n (stays h) = same_moves (ap (λ zs. acting_moves plan barrier (selecting zs) n d) h ∙ coming_there (selecting ys) n)
@@ -141,6 +153,11 @@ module _ (plan : Plan) (barrier : ℕ → Sight → Result Bool Raise) (no_objec
       same_moves
       (ap (λ z. acting_moves plan barrier (calling z x) n d) h.0 ∙ ap (λ z. acting_moves plan barrier (calling u z) n d) h.1 ∙ coming_there (calling u y) n)
   alike_there Other (calling t x) (calling u y) n (differs other) = some_moves other (call_some t x n d) (call_some u y n e)
+  alike_there Other (starting o r) (starting p q) n (stays h) =
+      same_moves
+      (ap (λ z. acting_moves plan barrier (starting z r) n d) h.0 ∙ ap (λ z. acting_moves plan barrier (starting p z) n d) h.1 ∙ coming_there (starting p q) n)
+  alike_there Other (starting o r) (starting p q) n (differs all) =
+      same_moves (starts_free o r n (free all) ∙ sym (starts_free p q n (free all)) ∙ coming_there (starting p q) n)
   alike_there Other x y n h = same_moves (ap (λ c. acting_moves plan barrier c n d) h ∙ coming_there y n)
 
   idle_there : (o : Owner) → owner_idle plan barrier o d ≡ owner_idle plan barrier o e
@@ -150,9 +167,6 @@ module _ (plan : Plan) (barrier : ℕ → Sight → Result Bool Raise) (no_objec
   times_there : (call : Call) → call_time plan barrier call d ≡ call_time plan barrier call e
   times_there call = ap (λ b. if is_queued call.state && b then call_time_by plan barrier call.form else []) (idle_there call.owner)
 
-  serves_none : (object : ℕ) (c : All Seen) → eligible plan barrier object c ≡ Ok []
-  serves_none object c = ap (λ (os : List ObjectPlan). eligible_from plan barrier 1 (slice_index_or os (object_of object c).declaration (record { name = []; entries = [] })).entries object c) no_objects
-
   abbrev with_own : Seen → Own → TaskAt Seen
   with_own x own = record { control = x; own = own }
 
@@ -161,12 +175,13 @@ module _ (plan : Plan) (barrier : ℕ → Sight → Result Bool Raise) (no_objec
     moves : AgreeMoves Other (turn_moves plan barrier u n d) (turn_moves plan barrier v n e)
     acts : is_acting u ≡ is_acting v
 
-  module _ (Other : Type 0) (n : ℕ) (x y : Seen) (o : Own) (alike : AreAlike Other x.coming y.coming) where
-    leave_there : (a b : Coming) → AreAlike Other a b → is_leave a o ≡ is_leave b o
+  module _ (Other : Type 0) (n : ℕ) (x y : Seen) (o : Own) (alike : AreAlike Free Other x.coming y.coming) where
+    leave_there : (a b : Coming) → AreAlike Free Other a b → is_leave a o ≡ is_leave b o
     leave_there (simply w) (simply v) h = refl
     leave_there ending ending h = refl
     leave_there (selecting xs) (selecting ys) h = refl
     leave_there (calling t x) (calling u y) h = refl
+    leave_there (starting x r) (starting y q) h = refl
     leave_there a b h = ap (λ c. is_leave c o) h
 
     bound_there : (status : Status) → is_bound plan barrier status n (with_own x o) d ≡ is_bound plan barrier status n (with_own y o) e
@@ -183,7 +198,7 @@ module _ (plan : Plan) (barrier : ℕ → Sight → Result Bool Raise) (no_objec
     deferred_there = ap (λ b. if in_action n d then true else b) (bound_there o.status)
 
     usual_there : (serving : Option Serving) (status : Status) → SameTurn Other n (usual plan barrier serving status n (with_own x o) d) (usual plan barrier serving status n (with_own y o) e)
-    usual_there (Some s) status = record { moves = same_moves (ap (λ r. serve_moves plan barrier r n) (serves_none s.object d ∙ sym (serves_none s.object e))); acts = refl }
+    usual_there (Some s) status = record { moves = same_moves (ap (λ r. serve_moves plan barrier r n) (serves s.object)); acts = refl }
     usual_there None Created = record { moves = same_moves refl; acts = refl }
     usual_there None Running = record { moves = alike_there Other x.coming y.coming n alike; acts = refl }
     usual_there None Activating = record { moves = same_moves refl; acts = refl }
@@ -217,12 +232,12 @@ module _ (plan : Plan) (barrier : ℕ → Sight → Result Bool Raise) (no_objec
     turn_there Completed = record { moves = same_moves (ap (λ (p : Own). only plan barrier (Closable (body_master p) d) n) (own_there n) ∙ ap (λ b. only plan barrier b n) (closable (body_master (own_of n e)))); acts = refl }
     turn_there Terminated = record { moves = same_moves refl; acts = refl }
 
-  task_there : (Other : Type 0) (n : ℕ) (t u : TaskAt Seen) → AlikeTask Other t u → SameTurn Other n (turn plan barrier n t d) (turn plan barrier n u e)
+  task_there : (Other : Type 0) (n : ℕ) (t u : TaskAt Seen) → AlikeTask Free Other t u → SameTurn Other n (turn plan barrier n t d) (turn plan barrier n u e)
   task_there Other n t u h =
       subst (λ (o : Own). SameTurn Other n (turn plan barrier n t d) (turn plan barrier n (with_own u.control o) e)) h.own
       (turn_there Other n t.control u.control t.own h.coming t.own.status)
 
-  acts_there : (Other : ℕ → Type 0) (n k i : ℕ) (ts vs : List (TaskAt Seen)) → k + i ≡ n → AlikeTasks Other k ts vs → is_acting (turn_at plan barrier (slice_get ts i) n d) ≡ is_acting (turn_at plan barrier (slice_get vs i) n e)
+  acts_there : (Other : ℕ → Type 0) (n k i : ℕ) (ts vs : List (TaskAt Seen)) → k + i ≡ n → AlikeTasks Free Other k ts vs → is_acting (turn_at plan barrier (slice_get ts i) n d) ≡ is_acting (turn_at plan barrier (slice_get vs i) n e)
   acts_there Other n k i [] [] at h = refl
   acts_there Other n k i [] (v ∷ vs) at h = absurd h
   acts_there Other n k i (t ∷ ts) [] at h = absurd h
@@ -230,11 +245,11 @@ module _ (plan : Plan) (barrier : ℕ → Sight → Result Bool Raise) (no_objec
   acts_there Other n k (suc i) (t ∷ ts) (v ∷ vs) at h = acts_there Other n (suc k) i ts vs (omega (arith, at)) h.1
 
   -- those of a task, in both
-  moves_of_task : (Other : ℕ → Type 0) (n : ℕ) (t v : TaskAt Seen) → AlikeTask (Other n) t v → AgreeMoves (Other n) (turn_moves plan barrier (turn plan barrier n t d) n d) (turn_moves plan barrier (turn plan barrier n v e) n e)
+  moves_of_task : (Other : ℕ → Type 0) (n : ℕ) (t v : TaskAt Seen) → AlikeTask Free (Other n) t v → AgreeMoves (Other n) (turn_moves plan barrier (turn plan barrier n t d) n d) (turn_moves plan barrier (turn plan barrier n v e) n e)
   moves_of_task Other n t v h = (task_there (Other n) n t v h).moves
 
   -- where they differ of no task
-  all_there : (n : ℕ) (ts vs : List (TaskAt Seen)) → AlikeTasks (λ k. ⊥) n ts vs → moves_from plan barrier n ts d ≡ moves_from plan barrier n vs e
+  all_there : (n : ℕ) (ts vs : List (TaskAt Seen)) → AlikeTasks Free (λ k. ⊥) n ts vs → moves_from plan barrier n ts d ≡ moves_from plan barrier n vs e
   all_there n [] [] h = refl
   all_there n [] (v ∷ vs) h = absurd h
   all_there n (t ∷ ts) [] h = absurd h
@@ -243,7 +258,7 @@ module _ (plan : Plan) (barrier : ℕ → Sight → Result Bool Raise) (no_objec
       ∙ ap (λ ms. turn_moves plan barrier (turn plan barrier n v e) n e ++ ms) (all_there (suc n) ts vs h.1)
 
   -- none in both, where there is none in the one
-  none_there : (Other : ℕ → Type 0) (n : ℕ) (ts vs : List (TaskAt Seen)) → AlikeTasks Other n ts vs → moves_from plan barrier n ts d ≡ [] → moves_from plan barrier n vs e ≡ []
+  none_there : (Other : ℕ → Type 0) (n : ℕ) (ts vs : List (TaskAt Seen)) → AlikeTasks Free Other n ts vs → moves_from plan barrier n ts d ≡ [] → moves_from plan barrier n vs e ≡ []
   none_there Other n [] [] h none = refl
   none_there Other n [] (v ∷ vs) h none = absurd h
   none_there Other n (t ∷ ts) [] h none = absurd h
@@ -277,7 +292,7 @@ module _ (plan : Plan) (barrier : ℕ → Sight → Result Bool Raise) (no_objec
     first_by n (m ∷ ms) ns rest left others theirs (some_moves other some there) first here none =
         absurd (other (sym theirs.0 ∙ ap (λ (x : Move). x.task) (head_of m (own_move of) (ms ++ rest) others first)))
 
-    first_there : (n : ℕ) (ts vs : List (TaskAt Seen)) (others : List Move) → AlikeTasks Others n ts vs → moves_from plan barrier n ts d ≡ own_move of ∷ others → Behind others (moves_from plan barrier n vs e)
+    first_there : (n : ℕ) (ts vs : List (TaskAt Seen)) (others : List Move) → AlikeTasks Free Others n ts vs → moves_from plan barrier n ts d ≡ own_move of ∷ others → Behind others (moves_from plan barrier n vs e)
     first_there n [] [] others h first = absurd cc
     first_there n [] (v ∷ vs) others h first = absurd h
     first_there n (t ∷ ts) [] others h first = absurd h
@@ -290,11 +305,11 @@ module _ (plan : Plan) (barrier : ℕ → Sight → Result Bool Raise) (no_objec
         (λ none. first_there (suc n) ts vs others h.1 (sym (ap (λ l. l ++ rest) none) ∙ first))
         (none_there Others (suc n) ts vs h.1)
 
-module _ (plan : Plan) (barrier : ℕ → Sight → Result Bool Raise) (no_objects : plan.objects ≡ []) (Other : ℕ → Type 0) (d : All Seen) (us : List (TaskAt Seen)) (frames : List Frame) (choices : List ℕ) (steps : ℕ) (alike : AlikeTasks Other 0 d.tasks us) where
+module _ (plan : Plan) (barrier : ℕ → Sight → Result Bool Raise) (Free : Type 0) (Other : ℕ → Type 0) (d : All Seen) (free : Free → d.shared.objects ≡ []) (us : List (TaskAt Seen)) (frames : List Frame) (choices : List ℕ) (steps : ℕ) (serves : ServesAlike plan barrier d (elsewhere us frames choices steps d)) (alike : AlikeTasks Free Other 0 d.tasks us) where
   abbrev there : All Seen
-  there = record d { tasks = us; shared = record d.shared { frames = frames }; choices = choices; steps = steps }
+  there = elsewhere us frames choices steps d
 
-  ended_there : (n : ℕ) (ts vs : List (TaskAt Seen)) → AlikeTasks Other n ts vs → has_ended plan barrier ts ≡ has_ended plan barrier vs
+  ended_there : (n : ℕ) (ts vs : List (TaskAt Seen)) → AlikeTasks Free Other n ts vs → has_ended plan barrier ts ≡ has_ended plan barrier vs
   ended_there n [] [] h = refl
   ended_there n [] (v ∷ vs) h = absurd h
   ended_there n (t ∷ ts) [] h = absurd h
@@ -305,35 +320,35 @@ module _ (plan : Plan) (barrier : ℕ → Sight → Result Bool Raise) (no_objec
 
   -- and its own statements go on at the next step of a task in both, or in neither
   pub acting_there : (n : ℕ) → is_acting (turn_at plan barrier (slice_get d.tasks n) n d) ≡ is_acting (turn_at plan barrier (slice_get us n) n there)
-  acting_there n = acts_there plan barrier no_objects d us frames choices steps (owns_alike Other 0 d.tasks us alike) Other n 0 n d.tasks us (omega arith) alike
+  acting_there n = acts_there plan barrier Free d free us frames choices steps serves (owns_alike Free Other 0 d.tasks us alike) Other n 0 n d.tasks us (omega arith) alike
 
 -- nothing differs
-module _ (plan : Plan) (barrier : ℕ → Sight → Result Bool Raise) (no_objects : plan.objects ≡ []) (d : All Seen) (us : List (TaskAt Seen)) (frames : List Frame) (choices : List ℕ) (steps : ℕ) (alike : AlikeTasks (λ k. ⊥) 0 d.tasks us) where
+module _ (plan : Plan) (barrier : ℕ → Sight → Result Bool Raise) (Free : Type 0) (d : All Seen) (free : Free → d.shared.objects ≡ []) (us : List (TaskAt Seen)) (frames : List Frame) (choices : List ℕ) (steps : ℕ) (serves : ServesAlike plan barrier d (elsewhere us frames choices steps d)) (alike : AlikeTasks Free (λ k. ⊥) 0 d.tasks us) where
   abbrev same_there : All Seen
-  same_there = there plan barrier no_objects (λ k. ⊥) d us frames choices steps alike
+  same_there = there plan barrier Free (λ k. ⊥) d free us frames choices steps serves alike
 
   pub moves_there : moves plan barrier d ≡ moves plan barrier same_there
-  moves_there = ap (λ b. moves_by plan barrier b d.shared.cut d) (as_ended plan barrier no_objects (λ k. ⊥) d us frames choices steps alike) ∙ by (has_ended plan barrier us) d.shared.cut
+  moves_there = ap (λ b. moves_by plan barrier b d.shared.cut d) (as_ended plan barrier Free (λ k. ⊥) d free us frames choices steps serves alike) ∙ by (has_ended plan barrier us) d.shared.cut
     where
       by : (ended cut : Bool) → moves_by plan barrier ended cut d ≡ moves_by plan barrier ended cut same_there
       by true cut = refl
       by false true = refl
-      by false false = all_there plan barrier no_objects d us frames choices steps (owns_alike (λ k. ⊥) 0 d.tasks us alike) 0 d.tasks us alike
+      by false false = all_there plan barrier Free d free us frames choices steps serves (owns_alike Free (λ k. ⊥) 0 d.tasks us alike) 0 d.tasks us alike
 
 -- nothing differs of the task of a number
-module _ (plan : Plan) (barrier : ℕ → Sight → Result Bool Raise) (no_objects : plan.objects ≡ []) (of : ℕ) (d : All Seen) (us : List (TaskAt Seen)) (frames : List Frame) (choices : List ℕ) (steps : ℕ) (alike : AlikeTasks (λ k. ¬ (k ≡ of)) 0 d.tasks us) where
+module _ (plan : Plan) (barrier : ℕ → Sight → Result Bool Raise) (Free : Type 0) (of : ℕ) (d : All Seen) (free : Free → d.shared.objects ≡ []) (us : List (TaskAt Seen)) (frames : List Frame) (choices : List ℕ) (steps : ℕ) (serves : ServesAlike plan barrier d (elsewhere us frames choices steps d)) (alike : AlikeTasks Free (λ k. ¬ (k ≡ of)) 0 d.tasks us) where
   abbrev Different : ℕ → Type 0
   Different k = ¬ (k ≡ of)
 
   abbrev other_there : All Seen
-  other_there = there plan barrier no_objects Different d us frames choices steps alike
+  other_there = there plan barrier Free Different d free us frames choices steps serves alike
 
   pub first_still : (others : List Move) → moves plan barrier d ≡ own_move of ∷ others → (more : List Move) × (moves plan barrier other_there ≡ own_move of ∷ more) × (others ≡ [] → more ≡ [])
   first_still others first =
-      let is = as_ended plan barrier no_objects Different d us frames choices steps alike in
+      let is = as_ended plan barrier Free Different d free us frames choices steps serves alike in
       by (has_ended plan barrier us) d.shared.cut (sym (ap (λ b. moves_by plan barrier b d.shared.cut d) is) ∙ first)
     where
       by : (ended cut : Bool) → moves_by plan barrier ended cut d ≡ own_move of ∷ others → (more : List Move) × (moves_by plan barrier ended cut other_there ≡ own_move of ∷ more) × (others ≡ [] → more ≡ [])
       by true cut h = absurd cc
       by false true h = absurd cc
-      by false false h = first_there plan barrier no_objects d us frames choices steps (owns_alike Different 0 d.tasks us alike) of 0 d.tasks us others alike h
+      by false false h = first_there plan barrier Free d free us frames choices steps serves (owns_alike Free Different 0 d.tasks us alike) of 0 d.tasks us others alike h

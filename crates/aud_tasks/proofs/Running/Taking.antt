@@ -22,7 +22,7 @@ use Rattle.aud_over.specs.Over.{forgotten, with_kept}
 use Rattle.aud_over.proofs.Coding.{code_looks}
 use Rattle.aud_over.proofs.Left.{run_left}
 use Rattle.aud_tasks.specs.declared.run.Ran.{Ran}
-use Rattle.aud_expr.specs.Size.{size}
+use Rattle.aud_tasks.specs.Counting.{most_ticks}
 use Rattle.aud_tasks.specs.Running.{RunsLeaving, Takes, RunsOn, IsUnchosen, Picks, Chooses}
 use Rattle.aud_tasks.proofs.Running.Still.{moves_unchosen}
 use Rattle.aud_tasks.proofs.Running.Whose.{AreOf, moves_of}
@@ -177,7 +177,7 @@ module _ (plan : Plan) (code : Flat) (limits : Limits) where
     pub within : steps ≤ n
     pub spots : AreSpots code.lines new.tasks
     pub steps_taken : steps + old.steps ≡ new.steps
-    pub few : ticks ≤ steps * (2 * size code)
+    pub few : ticks ≤ steps * most_ticks plan code
     pub kept : IsWithin Spot limits old → IsWithin Spot limits new
 
   -- steps keep the limits
@@ -188,7 +188,7 @@ module _ (plan : Plan) (code : Flat) (limits : Limits) where
   within_kept frames calls c h = record { tasks = h.tasks; objects = h.objects; output = h.output; frames = h.frames }
 
   -- frames and calls are given back after some steps more
-  pub runs_more : (n steps more ticks all : ℕ) (old here mid new : All Spot) → RunsSoFar n old here steps ticks → RunsOn plan code limits more here mid → more + here.steps ≡ mid.steps → steps + more ≤ n → AreSpots code.lines mid.tasks → forgotten new ≡ forgotten mid → new ≡ with_kept new.shared.frames new.shared.calls mid → all ≤ (steps + more) * (2 * size code) → RunsSoFar n old new (steps + more) all
+  pub runs_more : (n steps more ticks all : ℕ) (old here mid new : All Spot) → RunsSoFar n old here steps ticks → RunsOn plan code limits more here mid → more + here.steps ≡ mid.steps → steps + more ≤ n → AreSpots code.lines mid.tasks → forgotten new ≡ forgotten mid → new ≡ with_kept new.shared.frames new.shared.calls mid → all ≤ (steps + more) * most_ticks plan code → RunsSoFar n old new (steps + more) all
   runs_more n steps more ticks all old here mid new so_far on counted within spots same others few =
       let still = ap (λ (c : All Spot). c.steps) others in
       record {
@@ -223,7 +223,7 @@ module _ (plan : Plan) (code : Flat) (limits : Limits) where
   pub takes_none : (c : All Spot) (nth : ℕ) → slice_get (moves_at plan C c) nth ≡ None → Takes plan code limits (slice_get (moves_at plan C c) nth) c c None
   takes_none c nth none = subst (λ o. Takes plan code limits o c c None) (sym none) (refl, refl)
 
-  pub takes_some : (old new : All Spot) (nth : ℕ) (m : Move) (ran : Ran) → slice_get (moves_at plan C old) nth ≡ Some m → new ≡ step_with plan C limits old m → ran.steps ≡ 1 → ran.state ≡ state_at plan C new → ran.ticks ≤ 2 * size code →
+  pub takes_some : (old new : All Spot) (nth : ℕ) (m : Move) (ran : Ran) → slice_get (moves_at plan C old) nth ≡ Some m → new ≡ step_with plan C limits old m → ran.steps ≡ 1 → ran.state ≡ state_at plan C new → ran.ticks ≤ most_ticks plan code →
       Takes plan code limits (slice_get (moves_at plan C old) nth) old new (Some ran)
   takes_some old new nth m ran at next one state few =
       let counted = ap (λ (c : All Spot). c.steps) next ∙ step_counted old m (move_there plan code old nth m at) in
@@ -274,9 +274,9 @@ module _ (plan : Plan) (code : Flat) where
         kept = kept;
       }
 
-  module _ (no_objects : plan.objects ≡ []) (old new : All Spot) (choice : ℕ) (waits : old.choices ≡ choice ∷ new.choices) (kept : new ≡ record old { choices = new.choices }) where
+  module _ (old new : All Spot) (choice : ℕ) (waits : old.choices ≡ choice ∷ new.choices) (kept : new ≡ record old { choices = new.choices }) where
     same : Moves new ≡ Moves old
-    same = ap Moves kept ∙ sym (moves_unchosen plan code no_objects old new.choices)
+    same = ap Moves kept ∙ sym (moves_unchosen plan code old new.choices)
 
     chooses_at : (first : Move) (chosen : Option Move) → Moves old ≡ first ∷ drop 1 (Moves old) → 2 ≤ length (Moves old) → chosen ≡ slice_get (Moves old) (choice % length (Moves old)) → Chooses plan code old new chosen
     chooses_at first None is several at =

@@ -15,7 +15,7 @@ use Rattle.aud_meaning.specs.Tasks as effect
 use Rattle.aud_meaning.specs.Why.Alone.{IsAlone}
 use Rattle.aud_code.specs.Control.{going}
 use Rattle.aud_code.specs.declared.line.Ending.{Ending}
-use Rattle.aud_code.specs.declared.line.Ending.TheVariants.{Declare, DeclareArray, Null, Assign, Put, If, While, Loop, Exit, RaiseAgain, Block, Return, Call}
+use Rattle.aud_code.specs.declared.line.Ending.TheVariants.{Declare, DeclareArray, Null, Assign, Put, If, While, Loop, Exit, RaiseAgain, Block, Return, ReturnValue, OwnCall, Call}
 use Rattle.aud_code.specs.declared.line.Ending.TheVariants as ending
 use Rattle.aud_code.specs.declared.line.Last.{Last}
 use Rattle.aud_code.specs.declared.line.Among.TheVariants as among
@@ -65,6 +65,8 @@ alone_asked (Does RaiseAgain next) loops at s o of_one fine = tt
 alone_asked (Does (Block region inside) next) loops at s o of_one fine = tt
 alone_asked (Does (Return w) next) loops at s o of_one fine = tt
 alone_asked (Does (Call unit) next) loops at s o of_one fine = tt
+alone_asked (Does (ReturnValue w) next) loops at s o of_one fine = one o.integers (λ n. Unit {0}) _ (λ z k h. tt) fine
+alone_asked (Does OwnCall next) loops at s o of_one fine = tt
 alone_asked (Concerns a next) loops at s o of_one fine = absurd of_one
 alone_asked (Continues f behind inside) loops at s o of_one fine = tt
 alone_asked (Guards gs) loops at s o of_one fine = tt
@@ -94,6 +96,8 @@ of_one l e next is fits = subst (λ (k : Last). IsOfOne k) (sym is) (by e (ap is
     by (Block region inside) h = tt
     by (Return w) h = tt
     by (Call unit) h = tt
+    by (ReturnValue w) h = tt
+    by OwnCall h = tt
 
 long_by : {A : Type 0} (b : Bool) (x y : A) → not b ≡ true → y ≡ (if b then x else y)
 long_by true x y is = cc
@@ -116,6 +120,8 @@ module _ (plan : Plan) (code : Flat) (limits : Limits) (alternative : Option ℕ
   too_long_does (Does (Block region inside) next) is = cc
   too_long_does (Does (Return w) next) is = cc
   too_long_does (Does (Call unit) next) is = cc
+  too_long_does (Does (ReturnValue w) next) is = cc
+  too_long_does (Does OwnCall next) is = cc
   too_long_does (Concerns a next) is = cc
   too_long_does (Continues f behind inside) is = cc
   too_long_does (Guards gs) is = cc
@@ -140,7 +146,18 @@ module _ (loops : ℕ) (at : Pos) (s : Scene) (raise : Raise) where
   raised_in_part (Does (Block region inside) next) is = cc
   raised_in_part (Does (Return w) next) is = cc
   raised_in_part (Does (Call unit) next) is = cc
-  raised_in_part (Concerns a next) is = cc
+  raised_in_part (Does (ReturnValue w) next) is = cc
+  raised_in_part (Does OwnCall next) is = cc
+  raised_in_part (Concerns (among.DeclareTasks ts) next) is = cc
+  raised_in_part (Concerns (among.DeclareObject k) next) is = refl
+  raised_in_part (Concerns among.Activate next) is = cc
+  raised_in_part (Concerns among.Activated next) is = cc
+  raised_in_part (Concerns (among.Call entry form otherwise) next) is = cc
+  raised_in_part (Concerns (among.CallObject v entry form otherwise) next) is = cc
+  raised_in_part (Concerns (among.Operation v unit) next) is = cc
+  raised_in_part (Concerns among.Delay next) is = cc
+  raised_in_part (Concerns (among.Accept entry region body) next) is = cc
+  raised_in_part (Concerns (among.Select has_else own offers) next) is = cc
   raised_in_part (Continues f behind inside) is = cc
   raised_in_part (Guards gs) is = cc
   raised_in_part (Ends k next) is = cc
@@ -161,10 +178,15 @@ module _ (loops : ℕ) (at : Pos) (s : Scene) (raise : Raise) where
   raised_here (Does (Block region inside) next) is other = refl
   raised_here (Does (Return w) next) is other = refl
   raised_here (Does (Call unit) next) is other = refl
+  raised_here (Does (ReturnValue w) next) is other = refl
+  raised_here (Does OwnCall next) is other = refl
   raised_here (Concerns (among.DeclareTasks ts) next) is other = refl
   raised_here (Concerns among.Activate next) is other = refl
   raised_here (Concerns among.Activated next) is other = refl
   raised_here (Concerns (among.Call entry form otherwise) next) is other = refl
+  raised_here (Concerns (among.DeclareObject k) next) is other = cc
+  raised_here (Concerns (among.CallObject v entry form otherwise) next) is other = refl
+  raised_here (Concerns (among.Operation v unit) next) is other = refl
   raised_here (Concerns among.Delay next) is other = refl
   raised_here (Concerns (among.Accept entry region body) next) is other = refl
   raised_here (Concerns (among.Select has_else own offers) next) is other = refl

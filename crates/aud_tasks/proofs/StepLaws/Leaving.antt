@@ -1,21 +1,21 @@
 -- How constructs end.
-use Rattle.std.proofs.Common.{◌≡◌, ℕ, zero, suc, ℤ, List, [], ◌∷◌, Option, Some, None, slice_index_or, refl, ap, sym, ◌∙◌}
+use Rattle.std.proofs.Common.{◌≡◌, ℕ, zero, suc, List, [], ◌∷◌, Option, Some, None, slice_index_or, refl, ap, sym, ◌∙◌}
 use Rattle.std.specs.Prelude.{Result, Bool}
-use Rattle.aud_text.specs.declared.place.Pos.{Pos}
 use Rattle.aud_text.specs.declared.raise.Raise.{Raise}
 use Rattle.aud_typed.specs.Tree.{Plan}
 use Rattle.aud_meaning.specs.declared.state.Pending.{Pending}
-use Rattle.aud_meaning.specs.Configuration.{All, Back, Opened, Own, Target, TaskAt}
-use Rattle.aud_meaning.specs.Effects.{CopiedBack, copied_back, out_of_loops, with_result}
+use Rattle.aud_meaning.specs.declared.state.Resumed.{Resumed}
+use Rattle.aud_meaning.specs.Configuration.{All, Back, Opened, Own, TaskAt}
+use Rattle.aud_meaning.specs.Effects.{out_of_loops}
 use Rattle.aud_meaning.specs.Evaluation.{Sight}
 use Rattle.aud_meaning.specs.Orders.{Orders}
 use Rattle.aud_meaning.specs.Parts.{changed, exception_of, nobody, on_own, own_of, owns}
 use Rattle.aud_meaning.specs.Tasks as effect
-use Rattle.aud_meaning.specs.Ties.Stack.{returning}
 use Rattle.aud_store.specs.declared.stack.Open.{Open}
-use Rattle.aud_store.specs.declared.stack.Purpose.{Purpose}
-use Rattle.aud_store.specs.declared.stack.Purpose.TheVariants.{Accept, Body, Block, Loop, Procedure}
-use Rattle.aud_store.specs.Ties.Stored.{innermost_backs, plain_open, plain_purpose, purpose_backs}
+use Rattle.aud_store.specs.declared.purpose.Purpose.{Purpose}
+use Rattle.aud_store.specs.declared.purpose.Purpose.TheVariants.{Accept, Body, Block, Entry, Loop, Operation, Procedure}
+use Rattle.aud_store.specs.declared.purpose.Returns.{Returns}
+use Rattle.aud_store.specs.Ties.Stored.{innermost_backs, plain_open, plain_purpose, purpose_backs, returning_by}
 use Rattle.aud_tasks.specs.Leaving.{closed_by}
 
 module _ {C : Type 0} where
@@ -29,26 +29,6 @@ module _ {C : Type 0} where
   own_on f none n c = own_in f none n c.tasks
 
 module _ {C : Type 0} (go : Orders C) (plan : Plan) (barrier : ℕ → Sight → Result Bool Raise) where
-  through : (f : Option Raise → CopiedBack → CopiedBack) → ((b : CopiedBack) → f None b ≡ b) → ((r : Raise) (b : CopiedBack) → f (Some r) b ≡ b) → (back : CopiedBack) (at : Pos) (n : ℕ) (c : All C) → effect.given_back go plan barrier back at n c ≡ effect.given_back go plan barrier (f back.raised back) at n c
-  through f none some back at n c = ap (λ b. effect.given_back go plan barrier b at n c) (sym (same back.raised))
-    where
-      same : (r : Option Raise) → f r back ≡ back
-      same None = none back
-      same (Some r) = some r back
-
-  -- a procedure has no value
-  abbrev value_by : Option Target → Option Raise → CopiedBack → CopiedBack
-  value_by into None b = with_result into None b
-  value_by into (Some raise) b = b
-
-  pub returned_so : (values : List ℤ) (bs : List Back) (into : Option Target) (frame : ℕ) (at : Pos) (n : ℕ) (c : All C) → values ≡ slice_index_or c.shared.frames frame [] → effect.given_back go plan barrier (copied_back values bs c.shared.frames) at n c ≡ effect.returned go plan barrier (returning bs into) frame at n c
-  returned_so values bs None frame at n c is =
-      ap (λ vs. effect.given_back go plan barrier (copied_back vs bs c.shared.frames) at n c) is
-      ∙ through (value_by None) (λ b. refl) (λ r b. refl) (copied_back (slice_index_or c.shared.frames frame []) bs c.shared.frames) at n c
-  returned_so values bs (Some target) frame at n c is =
-      ap (λ vs. effect.given_back go plan barrier (copied_back vs bs c.shared.frames) at n c) is
-      ∙ through (value_by (Some target)) (λ b. refl) (λ r b. refl) (copied_back (slice_index_or c.shared.frames frame []) bs c.shared.frames) at n c
-
   -- what the end of the innermost construct is, by what it was opened for
   module _ (p : Option Pending) (n : ℕ) (c : All C) (o : Open) (saved : List ℕ) (backs : List Back) (outer : List Opened) (e : (out_of_loops (own_of n c)).opened ≡ plain_open o saved backs ∷ outer) where
     ends_so : (u : Purpose) → o.purpose ≡ u → effect.at_end_by go plan barrier (plain_purpose u backs) p (plain_open o saved backs) n c ≡ effect.at_end go plan barrier p n c
@@ -66,11 +46,21 @@ module _ {C : Type 0} (go : Orders C) (plan : Plan) (barrier : ℕ → Sight →
     pub at_end_accept : (call : ℕ) → o.purpose ≡ Accept call → effect.at_accept_end go plan barrier p call (plain_open o saved backs) n (on_own n out_of_loops c) ≡ effect.at_end go plan barrier p n c
     at_end_accept call is = ends_so (Accept call) is
 
-    pub at_end_procedure : (level copies : ℕ) (into : Option Target) → o.purpose ≡ Procedure level copies into →
-        effect.at_procedure_end go plan barrier p (returning (innermost_backs (out_of_loops (own_of n c)).opened) into) (plain_open o saved backs) n (on_own n out_of_loops c) ≡ effect.at_end go plan barrier p n c
-    at_end_procedure level copies into is =
-        ap (λ bs. effect.at_procedure_end go plan barrier p (returning bs into) (plain_open o saved backs) n (on_own n out_of_loops c)) (ap innermost_backs e ∙ ap (λ v. purpose_backs (plain_purpose v backs)) is)
-        ∙ ends_so (Procedure level copies into) is
+    pub at_end_procedure : (level : ℕ) (r : Returns) → o.purpose ≡ Procedure level r →
+        effect.at_procedure_end go plan barrier p (returning_by r (innermost_backs (out_of_loops (own_of n c)).opened)) (plain_open o saved backs) n (on_own n out_of_loops c) ≡ effect.at_end go plan barrier p n c
+    at_end_procedure level r is =
+        ap (λ bs. effect.at_procedure_end go plan barrier p (returning_by r bs) (plain_open o saved backs) n (on_own n out_of_loops c)) (ap innermost_backs e ∙ ap (λ v. purpose_backs (plain_purpose v backs)) is)
+        ∙ ends_so (Procedure level r) is
+
+    pub at_end_operation : (object : ℕ) (r : Returns) → o.purpose ≡ Operation object r →
+        effect.at_operation_end go plan barrier p object (returning_by r (innermost_backs (out_of_loops (own_of n c)).opened)) (plain_open o saved backs) n (on_own n out_of_loops c) ≡ effect.at_end go plan barrier p n c
+    at_end_operation object r is =
+        ap (λ bs. effect.at_operation_end go plan barrier p object (returning_by r bs) (plain_open o saved backs) n (on_own n out_of_loops c)) (ap innermost_backs e ∙ ap (λ v. purpose_backs (plain_purpose v backs)) is)
+        ∙ ends_so (Operation object r) is
+
+    pub at_end_entry : (object call : ℕ) (served : Bool) (resumed : Resumed) → o.purpose ≡ Entry object call served resumed →
+        effect.at_entry_end go plan barrier p object call resumed (plain_open o saved backs) n (on_own n out_of_loops c) ≡ effect.at_end go plan barrier p n c
+    at_end_entry object call served resumed is = ends_so (Entry object call served resumed) is
 
   -- a block's frame is left
   pub block_end_by : (p : Option Pending) (o : Opened) (n : ℕ) (c : All C) → effect.close_master go plan barrier o.frame (on_own n (closed_by p o.at) c) ≡ effect.at_block_end go plan barrier p o n c

@@ -32,7 +32,7 @@ leaves_is o m (simply w) h = ap is_some h
 leaves_is o m ending h = ap is_some h ∙ leave_is o
 leaves_is o m (selecting ones) h = ap is_some h
 leaves_is o m (calling task entry) h = ap is_some h
-leaves_is o m (starting object reading) h = absurd h
+leaves_is o m (starting object reading) h = ap is_some h
 
 module _ (plan : Plan) (code : Flat) (n : ℕ) (c : All Spot) where
   abbrev o : Own

@@ -26,7 +26,7 @@ module _ (plan : Plan) (code : Flat) (n : ℕ) (c : All Spot) where
   kind_as own k ending h = h
   kind_as own k (selecting ones) h = h
   kind_as own k (calling task entry) h = h
-  kind_as own k (starting object reading) h = absurd h
+  kind_as own k (starting object reading) h = h
 
   pub place_as : (servicing : Option Serving) (s : Status) → o.serving ≡ servicing → o.status ≡ s → usual_place_in plan code n c ≡ usual_at plan (barrier_at code) servicing s t
   place_as servicing s serves is = ap (λ x. usual_at plan (barrier_at code) x o.status t) serves ∙ ap (λ x. usual_at plan (barrier_at code) servicing x t) is

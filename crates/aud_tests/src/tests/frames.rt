@@ -1,6 +1,7 @@
 // Frames that are opened and left, one after the other, beside the main procedure's.
 
-use aud_store::stack::{Purpose, Stack};
+use aud_store::purpose::Purpose;
+use aud_store::stack::Stack;
 use aud_store::store::Store;
 use aud_text::int32::Int32;
 use aud_text::place::Pos;

@@ -2,7 +2,7 @@
 
 use aud_code::counts::{Counts, NOTHING};
 use aud_code::instruction::Instruction;
-use aud_code::line::{Code, EndLine, Ending, ForLoop, Last, Line, Way};
+use aud_code::line::{Among, Barrier, CallKind, Code, EndLine, Ending, ForLoop, Last, Line, Way};
 use aud_code::sound_code::verify;
 use aud_meaning::state::Construct;
 use aud_text::place::Pos;
@@ -27,6 +27,17 @@ fn is_sound(
     operands: Vec<Counts>,
     seen: Vec<usize>,
 ) -> Result<bool, AllocError> {
+    is_sound_with(alloc, lines, operands, seen, Vec::new(alloc))
+}
+
+// The same with these barriers.
+fn is_sound_with(
+    alloc: Global,
+    lines: Vec<Line>,
+    operands: Vec<Counts>,
+    seen: Vec<usize>,
+    barriers: Vec<Barrier>,
+) -> Result<bool, AllocError> {
     let code = Code {
         lines,
         operands,
@@ -34,6 +45,7 @@ fn is_sound(
         starts: vec![in alloc; 0; 1]?,
         spare: 0,
         tasks: Vec::new(alloc),
+        barriers,
     };
     Ok(verify(alloc, code).is_some())
 }
@@ -87,6 +99,50 @@ fn reads(alloc: Global, level: usize) -> Result<bool, AllocError> {
 fn reads_variables_of_open_frames(rt: HostRuntime) -> Result<(), AllocError> {
     assert!(rt; reads(rt.alloc(), 0)?);
     assert!(rt; !reads(rt.alloc(), 1)?);
+    Ok(())
+}
+
+// The barrier that reads the first variable of the frame at this level; so many frames are written for it.
+fn barrier(alloc: Global, level: usize, frames: usize) -> Result<Barrier, AllocError> {
+    let lines = [
+        Line::Instruction(Instruction::Load(Variable { level, index: 0 })),
+        Line::Instruction(Instruction::Truth),
+        line(Last::Does(Ending::If(0), 0), 0, None),
+    ];
+    Ok(Barrier {
+        lines: Vec::from_array(alloc, lines)?,
+        operands: Vec::from_array(alloc, [NOTHING, INTEGER, TRUTH])?,
+        frames,
+    })
+}
+
+// A body that calls the entry with this barrier of an object in its own frame.
+fn calls(alloc: Global, level: usize, frames: usize) -> Result<bool, AllocError> {
+    let call = Among::CallObject {
+        object: Variable { level: 0, index: 0 },
+        entry: 0,
+        kind: CallKind::Plain,
+        otherwise: 1,
+    };
+    let lines = [
+        line(Last::Concerns(call, 1), 1, None),
+        line(Last::Ends(Construct::Unit, 0), 1, None),
+    ];
+    is_sound_with(
+        alloc,
+        Vec::from_array(alloc, lines)?,
+        Vec::from_array(alloc, [NOTHING, NOTHING])?,
+        vec![in alloc; 1; 2]?,
+        Vec::from_array(alloc, [barrier(alloc, level, frames)?])?,
+    )
+}
+
+// The object's own frame is the second one that is open for its barriers.
+#[test]
+fn asks_barriers_of_open_frames(rt: HostRuntime) -> Result<(), AllocError> {
+    assert!(rt; calls(rt.alloc(), 1, 2)?);
+    assert!(rt; !calls(rt.alloc(), 2, 2)?);
+    assert!(rt; !calls(rt.alloc(), 2, 3)?);
     Ok(())
 }
 

@@ -1,4 +1,4 @@
--- The plain program of a program in memory. It has as yet no protected objects and functions, and nothing of abort.
+-- The plain program of a program in memory, which has as yet nothing of abort.
 use Rattle.std.specs.Prelude.{ℕ, ◌+◌, ◌*◌, List, [], ◌∷◌, ◌++◌, map, Option, Some, None, Vec}
 use Rattle.std.specs.Global.{Global}
 use Rattle.aud_typed.specs.declared.program.IntegerExpression.{IntegerExpression, Number, Variable, Element', Unary', Chain', Count, Row_of-Operation, end_of-Operation, more_of-Operation}
@@ -19,8 +19,11 @@ use Rattle.aud_typed.specs.declared.program.DelayExpression.{DelayExpression}
 use Rattle.aud_typed.specs.declared.program.DelayExpression.TheVariants as delay
 use Rattle.aud_typed.specs.declared.program.CallForm.{CallForm}
 use Rattle.aud_typed.specs.declared.program.CallForm.TheVariants as form
+use Rattle.aud_typed.specs.declared.program.Calling.{Calling}
+use Rattle.aud_typed.specs.declared.program.Callee.{Callee}
+use Rattle.aud_typed.specs.declared.program.Callee.TheVariants as callee
 use Rattle.aud_typed.specs.declared.program.TextExpression.{TextExpression, Literal, Image, ImageTruth, Join', NewLine, Row_of-TextExpression, end_of-TextExpression, more_of-TextExpression}
-use Rattle.aud_typed.specs.declared.program.Statement.{Statement, Declare, DeclareArray, DeclareTasks, Activated, Null, Assign, Put, If', While', Loop', For', Exit, Raise, RaiseAgain, Block', Return, ProcedureCall, EntryCall', Delay, Accept', Select', Row_of-Statement, end_of-Statement, more_of-Statement}
+use Rattle.aud_typed.specs.declared.program.Statement.{Statement, Declare, DeclareArray, DeclareTasks, DeclareObject, Activated, Null, Assign, Put, If', While', Loop', For', Exit, Raise, RaiseAgain, Block', Return, ReturnValue, ProcedureCall, OwnEntryCall, OperationCall, EntryCall', Delay, Accept', Select', Row_of-Statement, end_of-Statement, more_of-Statement}
 use Rattle.aud_typed.specs.declared.program.Tasks.{Tasks}
 use Rattle.aud_typed.specs.declared.program.IfStatement.{IfStatement, IfStatement', out-IfStatement, Row_of-Arm, end_of-Arm, more_of-Arm}
 use Rattle.aud_typed.specs.declared.program.Arm.{Arm}
@@ -41,6 +44,9 @@ use Rattle.aud_typed.specs.declared.program.Shown.TheVariants as shown
 use Rattle.aud_typed.specs.declared.program.Named.{Named}
 use Rattle.aud_typed.specs.declared.program.Unit as declared
 use Rattle.aud_typed.specs.declared.program.TaskType.{TaskType}
+use Rattle.aud_typed.specs.declared.program.ProtectedObject.{ProtectedObject}
+use Rattle.aud_typed.specs.declared.program.Entry.{Entry}
+use Rattle.aud_typed.specs.declared.program.EntryBody.{EntryBody}
 use Rattle.aud_typed.specs.declared.program.Program.{Program}
 use Rattle.aud_typed.specs.Tree as tree
 use Rattle.aud_typed.specs.Tree.{before, part_of, activation, Part, some, Handlers, no_handlers, handler}
@@ -115,8 +121,22 @@ plain_form form.Plain = tree.plainly
 plain_form form.Conditional = tree.conditionally
 plain_form (form.Timed e) = tree.timed (plain_delay e)
 
-abbrev pub plain_call : TaskName → ℕ → List Argument → CallForm → tree.EntryCall
-plain_call task entry arguments form = record { callee = tree.of_task (plain_task task); entry = entry; arguments = plain_arguments arguments; form = plain_form form }
+abbrev pub plain_into : Option Reference → Option tree.Reference
+plain_into None = None
+plain_into (Some r) = Some (plain_reference r)
+
+abbrev pub plain_calling : Calling → tree.Calling
+plain_calling c = record { unit = c.unit; arguments = plain_arguments c.arguments.items; into = plain_into c.into }
+
+abbrev pub plain_callee : Callee → tree.Callee
+plain_callee (callee.Task t) = tree.of_task (plain_task t)
+plain_callee (callee.Object v) = tree.of_object v
+
+abbrev pub plain_call : Callee → ℕ → List Argument → CallForm → tree.EntryCall
+plain_call called entry arguments form = record { callee = plain_callee called; entry = entry; arguments = plain_arguments arguments; form = plain_form form }
+
+abbrev pub plain_values : List ValueExpression → List tree.ValueExpression
+plain_values es = map plain_value es
 
 abbrev mutual
   pub plain_text : TextExpression → tree.TextExpression
@@ -138,6 +158,7 @@ abbrev mutual
   plain_statement (Declare at up_to e) = tree.declare at up_to (plain_value e)
   plain_statement (DeclareArray at t n) = tree.declare_array at t n
   plain_statement (DeclareTasks at ts) = tree.declare_tasks at (plain_tasks ts)
+  plain_statement (DeclareObject at n es) = tree.declare_object at n (plain_values es.items)
   plain_statement (Activated at) = tree.activated at
   plain_statement (Null at) = tree.null at
   plain_statement (Assign at r e) = tree.assign at (plain_reference r) (plain_value e)
@@ -152,8 +173,11 @@ abbrev mutual
   plain_statement (RaiseAgain at) = tree.raising_again at
   plain_statement (Block' _ b) = plain_block b
   plain_statement (Return at) = tree.return at
-  plain_statement (ProcedureCall at unit arguments) = tree.procedure_call at (record { unit = unit; arguments = plain_arguments arguments.items; into = None })
-  plain_statement (EntryCall' _ at task entry arguments form _ after _ otherwise) = tree.entry_call at (plain_call task entry arguments.items form) (part_of (plain_row after)) (part_of (plain_row otherwise))
+  plain_statement (ReturnValue at e) = tree.return_value at (plain_value e)
+  plain_statement (ProcedureCall at c) = tree.procedure_call at (plain_calling c)
+  plain_statement (OwnEntryCall at arguments form) = tree.own_entry_call at (plain_arguments arguments.items) (plain_form form)
+  plain_statement (OperationCall at v c) = tree.operation_call at v (plain_calling c)
+  plain_statement (EntryCall' _ at called entry arguments form _ after _ otherwise) = tree.entry_call at (plain_call called entry arguments.items form) (part_of (plain_row after)) (part_of (plain_row otherwise))
   plain_statement (Delay at e) = tree.delay at (plain_delay e)
   plain_statement (Accept' _ s) = plain_accept s
   plain_statement (Select' _ at _ alternatives _ otherwise) = tree.select at (plain_alternatives alternatives) (part_of (plain_row otherwise))
@@ -221,17 +245,28 @@ abbrev pub plain_region : Vec Named Global → List tree.Named
 plain_region r = map plain_named r.items
 
 abbrev pub plain_unit : declared.Unit → tree.UnitBody
-plain_unit u = record { level = u.level; region = u.region; at = u.at; body = plain_body u.body }
+plain_unit u = record { level = u.level; region = u.region; is_function = u.is_function; at = u.at; body = plain_body u.body }
 
 abbrev pub plain_task_type : TaskType → tree.TaskPlan
 plain_task_type t = record { unit = t.unit; entries = t.entries.items }
+
+abbrev pub plain_object : ProtectedObject → tree.ObjectPlan
+plain_object o = record { name = o.name; entries = o.entries.items }
+
+abbrev pub entry_with : List ℕ → Option EntryBody → tree.EntryBody
+entry_with name None = tree.task_entry name
+entry_with name (Some b) = record { name = name; unit = b.unit; barrier = plain_boolean b.barrier }
+
+abbrev pub plain_entry : Entry → tree.EntryBody
+plain_entry e = entry_with e.name e.body
 
 abbrev pub plain_program : Program → tree.Program
 plain_program p = tree.program_of_units (record {
   name = p.name;
   units = map plain_unit p.units.items;
   tasks = map plain_task_type p.tasks.items;
-  entries = p.entries.items;
+  objects = map plain_object p.objects.items;
+  entries = map plain_entry p.entries.items;
   regions = map plain_region p.regions.items;
   exceptions = p.exceptions.items;
 })
@@ -279,7 +314,7 @@ block_in s = tree.block (out-BlockStatement s).at (out-BlockStatement s).region 
 abbrev pub entry_call_in : EntryCallStatement → tree.Statement
 entry_call_in s =
     let o = out-EntryCallStatement s in
-    tree.entry_call o.at (plain_call o.task o.entry o.arguments.items o.form) (part_of (plain_statements o.after.items)) (part_of (plain_statements o.otherwise.items))
+    tree.entry_call o.at (plain_call o.callee o.entry o.arguments.items o.form) (part_of (plain_statements o.after.items)) (part_of (plain_statements o.otherwise.items))
 
 abbrev pub doing_in : Option Doing → tree.Doing
 doing_in None = tree.without_do

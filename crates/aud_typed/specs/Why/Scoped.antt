@@ -1,12 +1,13 @@
 -- Each variable that is read or assigned has been elaborated (RM 3.3.1, 8.3), and each table, exception and procedure is there: the
--- items that a typed program names are there. As yet it is said of programs of procedures and tasks, with the statements below, and of
--- no others; and not that a call of an entry has as many arguments as its accepts have formals.
-use Rattle.std.specs.Prelude.{◌≡◌, ℕ, suc, ◌+◌, ◌-◌, max, ◌<◌, ◌≤◌, List, [], ◌∷◌, ◌++◌, length, slice_index_or, None}
+-- items that a typed program names are there. As yet it is said of programs with the statements below, and of no others. It is not said
+-- that a call of an entry has as many arguments as its accepts or its body have formals, nor that the object in a cell is of the
+-- declaration that has the operation or entry which is called.
+use Rattle.std.specs.Prelude.{◌≡◌, ℕ, suc, ◌+◌, ◌-◌, max, ◌<◌, ◌≤◌, List, [], ◌∷◌, ◌++◌, length, slice_index_or, Option, None, Some, nat_eq, false}
 use Rattle.aud_typed.specs.declared.program.Variable.{Variable}
 use Rattle.aud_typed.specs.declared.program.ArrayAt.{ArrayAt}
 use Rattle.aud_typed.specs.declared.program.Exception.{Exception}
 use Rattle.aud_typed.specs.declared.program.Exception.TheVariants.{Predefined, Declared}
-use Rattle.aud_typed.specs.Tree.{Argument, by_value, by_copy, Calling, UnitPlan, TaskPlan, IntegerExpression, number, variable, element, unary, binary, count, TaskName, single, indexed, DelayExpression, milliseconds, seconds, CallForm, plainly, conditionally, timed, Callee, of_task, of_object, EntryCall, BooleanExpression, truth, stored, negation, relation, comparison, logical, and_then, or_else, callable, terminated, ValueExpression, whole, boolean, Reference, scalar, component, TextExpression, literal, image, image_truth, join, new_line, Tasks, Statement, sequence, declare, declare_array, declare_tasks, activated, activate, null, assign, put, if_then, plain_loop, while_loop, for_loop, exit, return, raising, raising_again, block, procedure_call, entry_call, delay, accept, select, Doing, without_do, with_do, Alternatives, no_alternatives, accepting, delaying, terminating, Part, nothing, some, Handlers, no_handlers, handler, Body, body, Shown, as_whole, as_truth, as_wholes, as_truths, hidden, Named, Plan, Program}
+use Rattle.aud_typed.specs.Tree.{Argument, by_value, by_copy, Calling, UnitPlan, TaskPlan, ObjectPlan, EntryPlan, IntegerExpression, number, variable, element, unary, binary, count, TaskName, single, indexed, DelayExpression, milliseconds, seconds, CallForm, plainly, conditionally, timed, Callee, of_task, of_object, EntryCall, BooleanExpression, truth, stored, negation, relation, comparison, logical, and_then, or_else, callable, terminated, ValueExpression, whole, boolean, Reference, scalar, component, TextExpression, literal, image, image_truth, join, new_line, Tasks, Statement, sequence, declare, declare_array, declare_tasks, declare_object, activated, activate, null, assign, put, if_then, plain_loop, while_loop, for_loop, exit, return, return_value, raising, raising_again, block, procedure_call, own_entry_call, operation_call, entry_call, delay, accept, select, Doing, without_do, with_do, Alternatives, no_alternatives, accepting, delaying, terminating, Part, nothing, some, Handlers, no_handlers, handler, Body, body, Shown, as_whole, as_truth, as_wholes, as_truths, hidden, Named, Plan, Program}
 
 -- how many names of an open frame are elaborated, and how many cells they have
 pub record Elaborated : Type 0 where
@@ -83,7 +84,12 @@ FormScoped (timed e) scope = DelayScoped e scope
 
 abbrev pub CalleeScoped : Callee → Scope → Type 0
 CalleeScoped (of_task t) scope = TaskScoped t scope
-CalleeScoped (of_object v) scope = ⊥
+CalleeScoped (of_object v) scope = IsElaborated v scope
+
+-- what the value of a function is assigned to
+abbrev pub IntoScoped : Option Reference → Scope → Type 0
+IntoScoped None scope = Unit {0}
+IntoScoped (Some r) scope = ReferenceScoped r scope
 
 abbrev pub TextScoped : TextExpression → Scope → Type 0
 TextScoped (literal text) scope = Unit {0}
@@ -113,6 +119,7 @@ scope_after (sequence a b) scope = scope_after b (scope_after a scope)
 scope_after (declare at up_to e) scope = in_innermost (declared_up_to up_to) scope
 scope_after (declare_array at t n) scope = in_innermost (declared_with n) scope
 scope_after (declare_tasks at ts) scope = in_innermost (declared_with ts.length) scope
+scope_after (declare_object at n es) scope = in_innermost (declared_with 1) scope
 scope_after _ scope = scope
 
 abbrev pub scope_behind : Part → Scope → Scope
@@ -157,6 +164,22 @@ AreOpen [] scope = Unit {0}
 AreOpen (e ∷ es) [] = ⊥
 AreOpen (e ∷ es) (x ∷ xs) = (e.cells ≤ x.cells) × AreOpen es xs
 
+-- they are open but the innermost of them, which is that of a protected object
+abbrev pub AreAround : Scope → Scope → Type 0
+AreAround [] scope = ⊥
+AreAround (own ∷ []) scope = Unit {0}
+AreAround (e ∷ x ∷ es) [] = ⊥
+AreAround (e ∷ x ∷ es) (y ∷ ys) = (e.cells ≤ y.cells) × AreAround (x ∷ es) ys
+
+-- the frame of an object begins with its own number
+abbrev pub own_number : Elaborated
+own_number = record { names = 1; cells = 1 }
+
+-- the initial values of its components, each of which is seen by the later ones (RM 9.4)
+abbrev pub ComponentsScoped : List ValueExpression → Elaborated → Scope → Type 0
+ComponentsScoped [] own scope = Unit {0}
+ComponentsScoped (e ∷ es) own scope = ValueScoped e (scope ++ own ∷ []) × ComponentsScoped es (declared_with 1 own) scope
+
 module _ (plan : Plan) where
   abbrev pub table : ℕ → List Named
   table n = slice_index_or plan.regions n []
@@ -168,6 +191,14 @@ module _ (plan : Plan) where
   abbrev pub AllThere : List Exception → Type 0
   AllThere [] = Unit {0}
   AllThere (x ∷ xs) = IsThere x × AllThere xs
+
+-- an entry
+abbrev pub no_entry_plan : EntryPlan
+no_entry_plan = record { name = []; unit = 0 }
+
+-- the body of a protected one
+abbrev pub entry_unit : Plan → ℕ → ℕ
+entry_unit plan n = (slice_index_or plan.entries n no_entry_plan).unit
 
 -- the body of a type of tasks
 abbrev pub no_task : TaskPlan
@@ -184,7 +215,22 @@ module _ (plan : Plan) (entries : List Entry) where
       × (length c.arguments ≡ (entry_of entries c.unit).formals)
       × AreOpen (entry_of entries c.unit).outer scope
       × ArgumentsScoped c.arguments scope
-      × (c.into ≡ None)
+      × IntoScoped c.into scope
+
+  -- an operation's call from outside its object: of a unit that is there, with as many arguments as it has formals, where the frames are
+  -- open that are around the object's
+  abbrev pub OperationScoped : Calling → Scope → Type 0
+  OperationScoped c scope =
+      (c.unit < length entries)
+      × (length c.arguments ≡ (entry_of entries c.unit).formals)
+      × AreAround (entry_of entries c.unit).outer scope
+      × ArgumentsScoped c.arguments scope
+      × IntoScoped c.into scope
+
+  -- the body of a protected entry is there, where the frames are open that are around its object's
+  abbrev pub BodyAround : Callee → ℕ → Scope → Type 0
+  BodyAround (of_task t) entry scope = Unit {0}
+  BodyAround (of_object v) entry scope = (entry_unit plan entry < length entries) × AreAround (entry_of entries (entry_unit plan entry)).outer scope
 
   -- tasks of a type that is there, and whose body is, where the frames that it sees are open: its own number is all that is elaborated
   -- in its own frame when it begins
@@ -207,7 +253,7 @@ module _ (plan : Plan) (entries : List Entry) where
 
   -- of an entry that is there
   abbrev pub EntryCallScoped : EntryCall → Scope → Type 0
-  EntryCallScoped c scope = (c.entry < length plan.entries) × CalleeScoped c.callee scope × ArgumentsScoped c.arguments scope × FormScoped c.form scope
+  EntryCallScoped c scope = (c.entry < length plan.entries) × CalleeScoped c.callee scope × ArgumentsScoped c.arguments scope × FormScoped c.form scope × BodyAround c.callee c.entry scope
 
   abbrev mutual
     pub StatementScoped : Statement → Scope → Type 0
@@ -217,6 +263,7 @@ module _ (plan : Plan) (entries : List Entry) where
     StatementScoped (declare_array at t n) scope = Unit {0}
     -- what they see is asked where they begin
     StatementScoped (declare_tasks at ts) scope = Unit {0}
+    StatementScoped (declare_object at n es) scope = (n < length plan.objects) × ComponentsScoped es own_number scope
     StatementScoped (activated at) scope = Unit {0}
     StatementScoped (activate at) scope = Unit {0}
     StatementScoped (null at) scope = Unit {0}
@@ -230,8 +277,11 @@ module _ (plan : Plan) (entries : List Entry) where
     StatementScoped (raising at x) scope = IsThere plan x
     StatementScoped (raising_again at) scope = Unit {0}
     StatementScoped (return at) scope = Unit {0}
+    StatementScoped (return_value at e) scope = ValueScoped e scope
     StatementScoped (block at n b) scope = BodyScoped b none_yet (table plan n) scope
     StatementScoped (procedure_call at c) scope = CallScoped c scope
+    StatementScoped (own_entry_call at es form) scope = ArgumentsScoped es scope × FormScoped form scope
+    StatementScoped (operation_call at v c) scope = IsElaborated v scope × OperationScoped c scope
     StatementScoped (entry_call at c p q) scope = EntryCallScoped c scope × PartScoped p scope × PartScoped q scope
     StatementScoped (delay at e) scope = DelayScoped e scope
     StatementScoped (accept at n d) scope = (n < length plan.entries) × DoingScoped d scope
@@ -275,6 +325,25 @@ module _ (plan : Plan) (entries : List Entry) where
   UnitsScoped (u ∷ us) (b ∷ bs) (e ∷ es) = UnitScoped u b e × UnitsScoped us bs es
   UnitsScoped _ _ _ = ⊥
 
+  -- a barrier is evaluated where the frames are open that its entry's body sees (RM 9.5.2(7)); that of a task's entry is True
+  abbrev pub BarriersScoped : List EntryPlan → List BooleanExpression → Type 0
+  BarriersScoped [] [] = Unit {0}
+  BarriersScoped (e ∷ es) (b ∷ bs) = BooleanScoped b (entry_of entries e.unit).outer × BarriersScoped es bs
+  BarriersScoped _ _ = ⊥
+
+-- no object has an entry twice
+abbrev pub IsNot : ℕ → List ℕ → Type 0
+IsNot n [] = Unit {0}
+IsNot n (m ∷ ms) = (nat_eq n m ≡ false) × IsNot n ms
+
+abbrev pub AreDistinct : List ℕ → Type 0
+AreDistinct [] = Unit {0}
+AreDistinct (n ∷ ns) = IsNot n ns × AreDistinct ns
+
+abbrev pub HaveDistinctEntries : List ObjectPlan → Type 0
+HaveDistinctEntries [] = Unit {0}
+HaveDistinctEntries (o ∷ os) = AreDistinct o.entries × HaveDistinctEntries os
+
 -- the main procedure has no formals, and sees no frames but its own
 abbrev pub MainEntry : List Entry → Type 0
 MainEntry [] = ⊥
@@ -285,3 +354,5 @@ pub record IsScoped (program : Program) : Type 0 where
   pub entries : List Entry
   pub main : MainEntry entries
   pub units : UnitsScoped program.plan entries program.plan.units program.bodies entries
+  pub barriers : BarriersScoped program.plan entries program.plan.entries program.barriers
+  pub objects : HaveDistinctEntries program.plan.objects

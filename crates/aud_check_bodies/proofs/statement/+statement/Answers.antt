@@ -1,6 +1,6 @@
 use Rattle.std.proofs.Common.{IfOk, ◌≡◌, ◌+◌, ◌++◌, ◌∷◌, drop, map, sym, ap, subst, ◌∙◌, refl, arith, true, false}
 use Rattle.std.proofs.lemmas.List.{drop_all}
-use Rattle.std.specs.Prelude.{ℕ, List, [], Box, Vec, Option, Some, Ok, OnOk, is_some}
+use Rattle.std.specs.Prelude.{ℕ, Bool, List, [], Box, Vec, Option, Some, Ok, OnOk, is_some}
 use Rattle.std.specs.Global.{Global}
 use Rattle.aud_syntax.specs.declared.tree.AcceptStatement.{out-AcceptStatement}
 use Rattle.aud_syntax.specs.declared.tree.SelectStatement.{out-SelectStatement}
@@ -8,6 +8,12 @@ use Rattle.aud_syntax.specs.declared.tree.IfStatement.{out-IfStatement}
 use Rattle.aud_syntax.specs.declared.tree.BlockStatement.{out-BlockStatement}
 use Rattle.aud_syntax.specs.declared.tree.ProcedureDeclaration.{out-ProcedureDeclaration}
 use Rattle.aud_syntax.specs.declared.tree.TaskBody.{out-TaskBody}
+use Rattle.aud_syntax.specs.declared.tree.OperationBody.{out-OperationBody}
+use Rattle.aud_syntax.specs.declared.tree.ProtectedBody.{out-ProtectedBody}
+use Rattle.aud_names.specs.declared.parts.PartKind.{PartKind}
+use Rattle.aud_names.specs.declared.awaited.AwaitedPart.{AwaitedPart}
+use Rattle.aud_names.specs.declared.names.Access.TheVariants.{Inside, InFunction}
+use Rattle.aud_names.specs.Objects.{awaited_parts, object_place}
 use Rattle.aud_syntax.specs.declared.tree.Body.{out-Body}
 use Rattle.aud_text.specs.declared.place.Pos.{Pos}
 use Rattle.aud_syntax.specs.Plain as m
@@ -19,8 +25,8 @@ use Rattle.aud_typed.specs.declared.program.CallForm as memory_form
 use Rattle.aud_typed.specs.declared.program.DelayExpression.{DelayExpression}
 use Rattle.aud_typed.specs.Tree as tree
 use Rattle.aud_typed.specs.Tree.{CallForm}
-use Rattle.aud_syntax.specs.Ties.View.{plain_expression, plain_name, plain_maybe, plain_parameter, plain_declarations, plain_statement, plain_statements, plain_others, arm_list, guarded_list, handler_list, plain_choices, plain_delay, plain_done, plain_accept, plain_other, plain_alternative as plain_source_alternative, plain_select_statement, plain_selected_call, plain_if_statement, plain_loop_statement, plain_block_statement, plain_body, plain_formal, plain_declaration, plain_procedure, plain_task_body}
-use Rattle.aud_syntax.proofs.Opened.{accept_open, select_open, selected_call_open, accept_alternative_open, delay_alternative_open, or_delay_open, or_else_open, if_open, loop_open, block_open, body_open, procedure_open, task_body_open}
+use Rattle.aud_syntax.specs.Ties.View.{plain_expression, plain_name, plain_maybe, plain_parameter, plain_declarations, plain_statement, plain_statements, plain_others, arm_list, guarded_list, handler_list, plain_choices, plain_delay, plain_done, plain_accept, plain_other, plain_alternative as plain_source_alternative, plain_select_statement, plain_selected_call, plain_if_statement, plain_loop_statement, plain_block_statement, plain_body, plain_formal, plain_declaration, plain_procedure, plain_task_body, plain_protected_body, operation_body_list, plain_operation_body}
+use Rattle.aud_syntax.proofs.Opened.{operation_body_open, protected_body_open, accept_open, select_open, selected_call_open, accept_alternative_open, delay_alternative_open, or_delay_open, or_else_open, if_open, loop_open, block_open, body_open, procedure_open, task_body_open}
 use Rattle.aud_syntax.proofs.Written.{dropped}
 use Rattle.aud_typed.specs.Ties.View.{plain_statement as plain_typed_statement, plain_statements as plain_typed_statements, plain_body as plain_typed_body, plain_unit as plain_typed_unit, plain_integer, plain_boolean, plain_delay as plain_typed_delay, plain_form, statements_in}
 use Rattle.aud_fault.specs.declared.fault.Fault.{Fault}
@@ -29,6 +35,10 @@ use Rattle.aud_names.specs.Names.{Region, Place, innermost, place_in, next_frame
 use Rattle.aud_check_bodies.specs.Regions.{shown_names, loop_region, in_loop}
 use Rattle.aud_check_bodies.specs.declared.declaration.DeclarativePart.{DeclarativePart}
 use Rattle.aud_check_bodies.specs.Declarations.{Declared, checked_objects, checked_arrays, with_procedure}
+use Rattle.aud_check_bodies.specs.Objects.{without_object_bodies, without_part_bodies, object_awaited, object_behind, body_object}
+use Rattle.aud_check_bodies.specs.Operations.{Head, Shape, BodyPlaces, body_places, shape_of, shape_faults, head_leaves, part_awaited, still_awaited, operation_matched, operation_unit, operation_tables, barrier_faults}
+use Rattle.aud_check_bodies.specs.Ties.Objects.{plain_head, plain_shape, both_places, ChecksBodies}
+use Rattle.aud_check_bodies.proofs.ObjectBodies.{at_place, operation_opened, operation_unit_left, operation_left_here, stands_in_one, stands_in, places_are, object_left, all_ahead, one_body, all_bodies}
 use Rattle.aud_check_bodies.specs.Tasks.{with_bodies, without_bodies, body_unit, body_task, task_awaited, place_behind, with_activation}
 use Rattle.aud_check_bodies.specs.Formals.{Formals, checked_formals}
 use Rattle.aud_check_bodies.specs.Accepts.{TypedAccept, accept_formals, accept_faults, accepted, number_of, with_accepted}
@@ -41,11 +51,12 @@ use Rattle.aud_names.specs.Rules.{right_name_at_end, right_label_at_end, exit_in
 use Rattle.aud_check_bodies.specs.Labels.{Labels}
 use Rattle.aud_check_bodies.specs.Ties.Labels.{plain_labels}
 use Rattle.aud_typing.specs.Conditions.{condition_faults, condition, maybe_condition_faults, maybe_condition}
-use Rattle.aud_check_bodies.specs.Assignments.{assign_faults, typed_assign}
+use Rattle.aud_check_bodies.specs.Values.{assign_faults, typed_assign}
+use Rattle.aud_check_bodies.specs.declared.within.Leaves.TheVariants as leaves
 use Rattle.aud_check_bodies.specs.Calls.{EntryCalled, call_faults, typed_call, entry_call_of, selected_call}
 use Rattle.aud_check_bodies.specs.Handlers.{raise_faults, typed_raise, none_chosen, all_choices_faults, is_others, choices_of}
 use Rattle.aud_check_bodies.specs.Tables.{Tables, Outcome, fine, and_then, next_region, with_region, region_kept, region_named, next_unit, unit_kept, with_unit}
-use Rattle.aud_check_bodies.specs.Statements.{Around, nothing_around, task_around, begin_of, TypedStatements, TypedArm, TypedHandler, TypedBody, begin_at, return_faults, typed_return, end_name, end_semicolon, procedure_place, procedure_formals, body_with, labelled, handling, loop_number, arm_then, arms_then, arm_of, handler_of, sequence_of, in_accept, checked_accept, checked_alternative, checked_alternatives, checked_otherwise, checked_statement, checked_loop, checked_statements, checked_others, checked_arms, checked_body, checked_handlers, checked_declaration, checked_declarations, body_behind, checked_unit}
+use Rattle.aud_check_bodies.specs.Statements.{Around, nothing_around, task_around, begin_of, TypedStatements, TypedArm, TypedHandler, TypedBody, begin_at, return_faults, typed_return, end_name, end_semicolon, procedure_place, procedure_formals, body_with, labelled, handling, loop_number, arm_then, arms_then, arm_of, handler_of, sequence_of, in_accept, checked_accept, checked_alternative, checked_alternatives, checked_otherwise, checked_statement, checked_loop, checked_statements, checked_others, checked_arms, checked_body, checked_handlers, checked_declaration, checked_declarations, checked_bodies, checked_operation, checked_operation_unit, operation_around, leaving_body, body_behind, checked_unit}
 use Rattle.aud_check_bodies.specs.Ties.Arms.{plain_arm, plain_arms, plain_handler, plain_handlers, plain_parts, plain_sequence, plain_items, plain_accepted, plain_alternative, plain_alternatives}
 use Rattle.aud_check_bodies.specs.declared.entry_call.EntryCalled as memory_call
 use Rattle.aud_check_bodies.specs.Ties.Passed.{plain_maybe_called}
@@ -55,7 +66,7 @@ use Rattle.aud_check_bodies.proofs.Walked.{Is, is_fine, is_after, is_then, check
 use Rattle.aud_check_bodies.proofs.Bodies.{body_left, iterated_left, loop_left, behind_left, entered_left, block_left, unit_left, procedure_left, task_left}
 use Rattle.aud_check_bodies.proofs.Rendezvous.{accepting_left, accept_alone_left, accept_doing_left, accept_alternative_left, delay_alternative_left, terminate_left, select_left, selected_call_left, or_else_left, entries_level}
 use Rattle.aud_check_bodies.proofs.Declared.{declares_all, declarations_ahead, all_declared, keeps_tables, declares_exceptions}
-use Rattle.aud_typing.proofs.Notes.{noted_append}
+use Rattle.aud_typing.proofs.Notes.{noted_append, noted_then}
 use Rattle.aud_check_bodies.proofs.statement.+statement.Goals as goal
 
 pub arms-loop-next-init : goal.arms-loop-next-init
@@ -157,7 +168,7 @@ pub statement-returns-in-Assign : goal.statement-returns-in-Assign
 statement-returns-in-Assign t c =
     let place = c.args.within.scope.now in
     let e = c.in-Assign in
-    rw e.is (checks_leaf (in_box plain_typed_statement) c.assignment.result c.args.faults.now c.assignment.new.faults (plain_tables c.args.tables.now) (assign_faults (plain_name e.target) (plain_expression e.value) place) (typed_assign (plain_name e.target) (plain_expression e.value) place) c.assignment.ensures)
+    rw e.is (checks_leaf (in_box plain_typed_statement) c.assignment.result c.args.faults.now c.assignment.new.faults (plain_tables c.args.tables.now) (assign_faults (plain_name e.target) (plain_expression e.value) place (plain_tables c.args.tables.now)) (typed_assign (plain_name e.target) (plain_expression e.value) place (plain_tables c.args.tables.now)) c.assignment.ensures)
 
 pub statement-returns-in-Call : goal.statement-returns-in-Call
 statement-returns-in-Call t c =
@@ -169,7 +180,7 @@ pub statement-returns-in-Return : goal.statement-returns-in-Return
 statement-returns-in-Return t c =
     let place = c.args.within.scope.now in
     let e = c.in-Return in
-    rw e.is (checks_leaf (in_box plain_typed_statement) c.return_from.result c.args.faults.now c.return_from.new.faults (plain_tables c.args.tables.now) (return_faults e.at (plain_maybe e.value) c.args.within.in_task place) (typed_return e.at (plain_maybe e.value)) c.return_from.ensures)
+    rw e.is (checks_leaf (in_box plain_typed_statement) c.return_from.result c.args.faults.now c.return_from.new.faults (plain_tables c.args.tables.now) (return_faults e.at (plain_maybe e.value) c.args.within.leaves place) (typed_return e.at (plain_maybe e.value) c.args.within.leaves place) c.return_from.ensures)
 
 pub statement-returns-in-Raise : goal.statement-returns-in-Raise
 statement-returns-in-Raise t c =
@@ -261,13 +272,13 @@ accept-returns t c =
     let region : Region = (accept_formals fs place).region in
     let source = plain_body c.in-Some.source.value in
     let parts = plain_parts c.in_ok-parts.parts in
-    let inner_around : Around = record { labels = []; in_handler = c.args.within.in_handler; in_task = false; accepting = c.deref-3.result.now } in
+    let inner_around : Around = record { labels = []; in_handler = c.args.within.in_handler; leaves = leaves.Procedure; accepting = c.deref-3.result.now } in
     let inner_place : Place = c.new.result in
     let same_region : plain_region own ≡ region = h.region ∙ ap (λ l. (accept_formals (map plain_formal l) place).region) c.deref.ensures.value in
     let noted_head : headed ≡ noted old (accept_faults x.name fs around.accepting place tables) =
     subst (λ l. headed ≡ noted old (accept_faults x.name (map plain_formal l) around.accepting place tables)) c.deref.ensures.value h.noted in
     let within : inner_around ≡ in_accept e around =
-    ap (λ l. record { labels = []; in_handler = c.args.within.in_handler; in_task = false; accepting = l }) (c.deref-3.ensures.value ∙ c.in_ok-accepting.ensures ∙ ap (λ z. with_accepted z around.accepting) h.entry) in
+    ap (λ l. record { labels = []; in_handler = c.args.within.in_handler; leaves = leaves.Procedure; accepting = l }) (c.deref-3.ensures.value ∙ c.in_ok-accepting.ensures ∙ ap (λ z. with_accepted z around.accepting) h.entry) in
     let inner : inner_place ≡ place_in region place.regions =
     c.new.ensures ∙ ap (λ rs. plain_place own rs) c.deref-2.ensures.value ∙ ap (λ r. place_in r (plain_regions outer.items)) same_region ∙ ap (place_in region) c.in_ok-outer.ensures in
     let entered : entry ≡ with_region (shown_names region.symbols) tables =
@@ -521,7 +532,7 @@ pub loop_body-returns : goal.loop_body-returns
 loop_body-returns t c =
     let x = c.args.node.now in
     let place = c.args.within.scope.now in
-    let among : Labels → Type 0 = λ ls. Checks (in_box plain_sequence) c.statements.result c.args.faults.now c.statements.new.faults (plain_tables c.statements.new.tables) (checked_statements (plain_statements x.statements) (record { labels = ls; in_handler = c.args.within.in_handler; in_task = c.args.within.in_task; accepting = c.args.within.accepting.now }) place (plain_tables c.args.tables.now)) in
+    let among : Labels → Type 0 = λ ls. Checks (in_box plain_sequence) c.statements.result c.args.faults.now c.statements.new.faults (plain_tables c.statements.new.tables) (checked_statements (plain_statements x.statements) (record { labels = ls; in_handler = c.args.within.in_handler; leaves = c.args.within.leaves; accepting = c.args.within.accepting.now }) place (plain_tables c.args.tables.now)) in
     subst among c.in_ok-labels.ensures (subst (λ l. among (plain_labels l)) c.deref.ensures.value c.statements.ensures)
 
 pub loop_statement-returns-in_ok-body-in-Forever : goal.loop_statement-returns-in_ok-body-in-Forever
@@ -657,7 +668,7 @@ block_statement-returns t c =
     (subst (λ rs. Enters named declared rs part (next_region tables) entry (own (plain_declarations c.deref-3.result.now) (plain_place region rs))) c.deref-4.ensures.value c.in_ok-part.ensures) in
     let stated : Is declared new u body (body_behind false (plain_items part.elaborations) source behind (plain_place part.region outer.items) entry) =
     subst (λ rs. Is declared new u body (body_behind false (plain_items part.elaborations) source behind (plain_place part.region rs) entry)) c.deref.ensures.value
-    (subst (λ ls. Is declared new u body (body_behind false (plain_items part.elaborations) source (record { labels = ls; in_handler = c.args.within.in_handler; in_task = c.args.within.in_task; accepting = c.args.within.accepting.now }) (plain_place part.region c.deref.result.now) entry)) labels c.in_ok-body.ensures) in
+    (subst (λ ls. Is declared new u body (body_behind false (plain_items part.elaborations) source (record { labels = ls; in_handler = c.args.within.in_handler; leaves = c.args.within.leaves; accepting = c.args.within.accepting.now }) (plain_place part.region c.deref.result.now) entry)) labels c.in_ok-body.ensures) in
     let whole = entered_left named declared new tables entry u false ds source behind (in_frame place) (plain_place part.region outer.items) (plain_items part.elaborations) body enters.0 enters.1 enters.2 enters.3 stated in
     let named_all : named ≡ noted old (right_label_at_end x.label (end_name source) (end_semicolon source)) =
     c.right_label_at_end.ensures ∙ ap (λ z. noted old (right_label_at_end x.label (end_name z) (end_semicolon z))) (sym (body_open x.body)) in
@@ -678,15 +689,19 @@ declared-returns t c =
     let given : Outcome Declared = with_bodies (checked_declarations ds place kept) in
     let same : given ≡ d = ap (λ w. with_bodies (checked_declarations ds place w)) c.in_ok-keep_region.ensures in
     let checked = (checked_declarations ds place kept).faults in
-    let awaited : Place → List Fault = λ z. without_bodies (innermost z).awaited in
+    let missed : Place → List Fault = λ z. without_bodies (innermost z).awaited ++ without_object_bodies (innermost z).objects in
+    let behind = part.region in
     let all = c.in_ok-declarations.ensures in
     let entry : Tables = plain_tables c.name_region.new.self in
     let named : ℕ → Place → Tables → Tables = λ n z w. region_named n (shown_names (innermost z).symbols) w in
     let into : entry ≡ named (next_region tables) d.made.place d.tables =
     c.in_ok-name_region.ensures ∙ ap (λ n. named n (plain_place part.region seen) (plain_tables c.declarations.new.tables)) c.next_region-number.ensures ∙ ap (λ z. named (next_region tables) z (plain_tables c.declarations.new.tables)) all.1
     ∙ ap (named (next_region tables) given.made.place) all.3 ∙ ap (λ (g : Outcome Declared). named (next_region tables) g.made.place g.tables) same in (
-      c.without_bodies.ensures ∙ ap (λ l. noted c.declarations.new.faults (without_bodies l)) c.deref.ensures.value ∙ ap (λ o. noted o (awaited (plain_place part.region seen))) all.0 ∙ ap (λ z. noted (noted old checked) (awaited z)) all.1
-          ∙ sym (noted_append old checked (awaited given.made.place)) ∙ ap (λ (g : Outcome Declared). noted old g.faults) same,
+      c.without_object_bodies.ensures ∙ ap (λ l. noted c.without_bodies.new.faults (without_object_bodies l)) c.deref-2.ensures.value
+          ∙ ap (λ o. noted o (without_object_bodies behind.objects.items)) (c.without_bodies.ensures ∙ ap (λ l. noted c.declarations.new.faults (without_bodies l)) c.deref.ensures.value)
+          ∙ sym (noted_append c.declarations.new.faults (without_bodies behind.awaited.items) (without_object_bodies behind.objects.items))
+          ∙ ap (λ o. noted o (missed (plain_place behind seen))) all.0 ∙ ap (λ z. noted (noted old checked) (missed z)) all.1
+          ∙ sym (noted_append old checked (missed given.made.place)) ∙ ap (λ (g : Outcome Declared). noted old g.faults) same,
       all.1 ∙ ap (λ (g : Outcome Declared). g.made.place) same,
       all.2 ∙ ap (λ l. plain_typed_statements l ++ given.made.elaborations) c.new.ensures.items ∙ ap (λ (g : Outcome Declared). g.made.elaborations) same,
       into,
@@ -716,6 +731,10 @@ body_behind-returns t c =
     behind_left c.body_of.result old new tables u of_task source around place among given made (body_with (elaborated (plain_items b.elaborations) (begin_of source)) source made)
     c.new.ensures stated (ap (λ l. body_with l source made) begun) c.body_of.ensures
 
+pub procedure_part-returns : goal.procedure_part-returns
+procedure_part-returns t c =
+    subst (λ l. IfOk c.declared.result (λ part. Enters c.args.faults.now c.declared.new.faults c.args.outer.now part (next_region (plain_tables c.args.tables.now)) (plain_tables c.declared.new.tables) (with_bodies (checked_declarations (plain_declarations l) (plain_place c.args.region c.args.outer.now) (region_kept (plain_tables c.args.tables.now)))))) c.deref.ensures.value c.declared.ensures
+
 pub procedure-returns : goal.procedure-returns
 procedure-returns t c =
     let x = out-ProcedureDeclaration c.args.node.now in
@@ -726,10 +745,10 @@ procedure-returns t c =
     let old = c.args.faults.now in
     let named = c.declare_procedure.new.faults in
     let formed = c.formals.new.faults in
-    let shown_faults = c.declared.new.faults in
+    let shown_faults = c.procedure_part.new.faults in
     let stated_faults = c.body_behind.new.faults in
     let new = c.right_name_at_end.new.faults in
-    let shown_tables = plain_tables c.declared.new.tables in
+    let shown_tables = plain_tables c.procedure_part.new.tables in
     let u = plain_tables c.body_behind.new.tables in
     let number = c.next_unit-number.result in
     let declared = c.declare_procedure.new.region in
@@ -761,14 +780,13 @@ procedure-returns t c =
     let made = plain_typed_unit c.in_ok-unit.unit.value in
     let in_it : m.Declarations → Place → Outcome Declared = λ l z. with_bodies (checked_declarations l z (region_kept entry)) in
     let enters : Enters formed shown_faults regions.items part (next_region entry) shown_tables (in_it ds own) =
-    subst (λ l. Enters formed shown_faults regions.items part (next_region entry) shown_tables (in_it (plain_declarations l) own)) c.deref-3.ensures.value
-    (subst (λ rs. Enters formed shown_faults rs part (next_region entry) shown_tables (in_it (plain_declarations c.deref-3.result.now) (plain_place c.formals.new.region rs))) c.deref-4.ensures.value c.in_ok-inner.ensures) in
+    subst (λ rs. Enters formed shown_faults rs part (next_region entry) shown_tables (in_it ds (plain_place c.formals.new.region rs))) c.deref-3.ensures.value c.in_ok-inner.ensures in
     let stated : Is shown_faults stated_faults u body (body_behind false (plain_items part.elaborations) source nothing_around (plain_place part.region regions.items) shown_tables) =
-    subst (λ rs. Is shown_faults stated_faults u body (body_behind false (plain_items part.elaborations) source nothing_around (plain_place part.region rs) shown_tables)) c.deref-5.ensures.value c.in_ok-body.ensures in
+    subst (λ rs. Is shown_faults stated_faults u body (body_behind false (plain_items part.elaborations) source nothing_around (plain_place part.region rs) shown_tables)) c.deref-4.ensures.value c.in_ok-body.ensures in
     let whole = entered_left formed shown_faults stated_faults entry shown_tables u false ds source nothing_around own (plain_place part.region regions.items) (plain_items part.elaborations) body enters.0 enters.1 enters.2 enters.3 stated in
     let ends : new ≡ noted stated_faults (right_name_at_end x.name.name (end_name source)) =
     c.right_name_at_end.ensures ∙ ap (λ z. noted stated_faults (right_name_at_end x.name.name (end_name z))) (sym (body_open x.body)) in
-    let unit : ℕ → tree.UnitBody = λ n. record { level = c.formals.new.region.level; region = n; at = x.at; body = body } in
+    let unit : ℕ → tree.UnitBody = λ n. record { level = c.formals.new.region.level; region = n; is_function = false; at = x.at; body = body } in
     let checked : Is formed new u made (checked_unit false x.at x.name.name ds source own entry) =
     unit_left formed stated_faults new entry u false x.at x.name.name ds source own body made whole ends (c.in_ok-unit.ensures ∙ ap unit c.next_region-own.ensures) in
     let put : plain_tables c.put_unit.new.self ≡ with_unit (next_unit tables) made u =
@@ -815,6 +833,160 @@ declaration-returns-in-TaskBody t c =
     let place : Place = plain_place c.args.part.now.region c.args.outer.now in
     let opened : plain_declaration c.args.declaration.now ≡ plain_task_body c.deref-in-TaskBody.result.now = ap plain_declaration c.in-TaskBody.is ∙ ap plain_task_body (sym c.deref-in-TaskBody.ensures) in
     subst (λ z. OnOk c.task_body.result (Declares c.args.faults.now c.task_body.new.faults c.args.outer.now c.args.part.now c.task_body.new.part (plain_tables c.task_body.new.tables) (checked_declaration z place (plain_tables c.args.tables.now)))) (sym opened) c.task_body.ensures
+
+pub declaration-returns-in-Protected : goal.declaration-returns-in-Protected
+declaration-returns-in-Protected t c = rw c.in-Protected.is c.declare_protected.ensures
+
+pub declaration-returns-in-ProtectedBody : goal.declaration-returns-in-ProtectedBody
+declaration-returns-in-ProtectedBody t c =
+    let place : Place = plain_place c.args.part.now.region c.args.outer.now in
+    let opened : plain_declaration c.args.declaration.now ≡ plain_protected_body c.deref-in-ProtectedBody.result.now = ap plain_declaration c.in-ProtectedBody.is ∙ ap plain_protected_body (sym c.deref-in-ProtectedBody.ensures) in
+    subst (λ z. OnOk c.protected_body.result (Declares c.args.faults.now c.protected_body.new.faults c.args.outer.now c.args.part.now c.protected_body.new.part (plain_tables c.protected_body.new.tables) (checked_declaration z place (plain_tables c.args.tables.now)))) (sym opened) c.protected_body.ensures
+
+pub operation_part-returns : goal.operation_part-returns
+operation_part-returns t c =
+    subst (λ l. IfOk c.declared.result (λ part. Enters c.args.faults.now c.declared.new.faults c.args.outer.now part (next_region (plain_tables c.args.tables.now)) (plain_tables c.declared.new.tables) (with_bodies (checked_declarations (plain_declarations l) (plain_place c.args.region c.args.outer.now) (region_kept (plain_tables c.args.tables.now)))))) c.deref.ensures.value c.declared.ensures
+
+pub operation_body-returns : goal.operation_body-returns
+operation_body-returns t c =
+    let x = out-OperationBody c.args.node.now in
+    let d = c.args.declared_parts in
+    let seen = c.args.outer.now in
+    let here : Place = plain_place c.args.own.now seen in
+    let i = x.name in
+    let head : Head = plain_head x.kind in
+    let tables : Tables = plain_tables c.args.tables.now in
+    let old = c.args.faults.now in
+    let awaited = c.args.awaited.now.items in
+    let shaped = c.body_shape.new.faults in
+    let headed = c.matched-unit.new.faults in
+    let shown_faults = c.operation_part.new.faults in
+    let stated_faults = c.body_behind.new.faults in
+    let new = c.right_name_at_end.new.faults in
+    let entry : Tables = plain_tables c.matched-unit.new.tables in
+    let shown_tables = plain_tables c.operation_part.new.tables in
+    let u = plain_tables c.body_behind.new.tables in
+    let fs = map plain_formal x.formals.items in
+    let ds = plain_declarations x.declarations.items in
+    let source = plain_body x.body in
+    let object = d.object in
+    let parts = d.parts.now in
+    let shape : Shape = shape_of head i fs here in
+    let found : Option PartKind = part_awaited head i (at_place object parts here) awaited in
+    let b = c.in_ok-shape-2 in
+    let shape_is : plain_shape c.in_ok-shape.shape ≡ shape = c.in_ok-shape.ensures.1 ∙ ap (λ l. shape_of head i (map plain_formal l) here) c.deref.ensures.value in
+    let still_shape : plain_shape b.shape ≡ shape = ap plain_shape b.ensures.first ∙ shape_is in
+    let noted_shape : shaped ≡ noted old (shape_faults head i fs here) = c.in_ok-shape.ensures.0 ∙ ap (λ l. noted old (shape_faults head i (map plain_formal l) here)) c.deref.ensures.value in
+    let matched_faults : Shape → List Fault = λ (s : Shape). operation_matched found i.at s.profile s.returned tables ++ barrier_faults head s.region here in
+    let noted_match : headed ≡ noted shaped (matched_faults shape) =
+    subst (λ r. OnOk r (headed ≡ noted shaped (matched_faults (plain_shape c.in_ok-shape.shape)))) b.ensures.next c.matched-unit.ensures.noted ∙ ap (λ s. noted shaped (matched_faults s)) shape_is in
+    let noted_head : headed ≡ noted old (shape_faults head i fs here ++ matched_faults shape) = noted_then old shaped headed (shape_faults head i fs here) (matched_faults shape) noted_shape noted_match in
+    let kept : entry ≡ operation_tables head found shape.region here tables =
+    subst (λ r. OnOk r (entry ≡ operation_tables head found (plain_region c.in_ok-shape.shape.region) here tables)) b.ensures.next c.matched-unit.ensures.tables ∙ ap (λ (s : Shape). operation_tables head found s.region here tables) shape_is in
+    let still : c.matched-unit.new.awaited.items ≡ still_awaited found awaited = subst (λ r. OnOk r (c.matched-unit.new.awaited.items ≡ still_awaited found awaited)) b.ensures.next c.matched-unit.ensures.awaited in
+    let number : b.number ≡ operation_unit found tables = subst (λ r. IfOk r (λ n. n ≡ operation_unit found tables)) b.ensures.next c.matched-unit.ensures.unit in
+    let regions = c.in_ok-regions.regions in
+    let own = plain_place b.shape.region regions.items in
+    let inner : own ≡ place_in shape.region here.regions =
+    ap (λ r. place_in r (plain_regions regions.items)) (ap (λ (s : Shape). s.region) still_shape) ∙ ap (place_in shape.region) c.in_ok-regions.ensures ∙ ap (λ (z : Place). place_in shape.region z.regions) c.new.ensures in
+    let part = c.in_ok-inner.inner in
+    let body = plain_typed_body c.in_ok-body.body.value in
+    let made = plain_typed_unit c.in_ok-unit.unit.value in
+    let in_it : m.Declarations → Place → Outcome Declared = λ l z. with_bodies (checked_declarations l z (region_kept entry)) in
+    let enters : Enters headed shown_faults regions.items part (next_region entry) shown_tables (in_it ds own) =
+    subst (λ rs. Enters headed shown_faults rs part (next_region entry) shown_tables (in_it ds (plain_place b.shape.region rs))) c.deref-2.ensures.value c.in_ok-inner.ensures in
+    let around : Around = operation_around head i fs here in
+    let left : leaving_body c.head_leaves.result ≡ around = ap leaving_body (c.head_leaves.ensures ∙ ap (λ (s : Shape). head_leaves head s.returned) still_shape) in
+    let stated : Is shown_faults stated_faults u body (body_behind false (plain_items part.elaborations) source around (plain_place part.region regions.items) shown_tables) =
+    subst (λ a. Is shown_faults stated_faults u body (body_behind false (plain_items part.elaborations) source a (plain_place part.region regions.items) shown_tables)) left
+    (subst (λ rs. Is shown_faults stated_faults u body (body_behind false (plain_items part.elaborations) source (leaving_body c.head_leaves.result) (plain_place part.region rs) shown_tables)) c.deref-3.ensures.value c.in_ok-body.ensures) in
+    let whole = entered_left headed shown_faults stated_faults entry shown_tables u false ds source around own (plain_place part.region regions.items) (plain_items part.elaborations) body enters.0 enters.1 enters.2 enters.3 stated in
+    let ends : new ≡ noted stated_faults (right_name_at_end i.name (end_name source)) =
+    c.right_name_at_end.ensures ∙ ap (λ z. noted stated_faults (right_name_at_end i.name (end_name z))) (sym (body_open x.body)) in
+    let unit : ℕ → Bool → tree.UnitBody = λ n f. record { level = b.shape.region.level; region = n; is_function = f; at = x.at; body = body } in
+    let checked : Is headed new u made (checked_operation_unit head x.at i fs ds source here own entry) =
+    operation_unit_left headed stated_faults new entry u head x.at i fs ds source here own body made whole ends
+    (c.in_ok-unit.ensures ∙ ap (λ n. unit n c.is_function.result) c.next_region-own_region.ensures ∙ ap (unit (next_region entry)) c.is_function.ensures) in
+    let end = plain_tables c.put_unit.new.self in
+    let put : end ≡ with_unit (operation_unit found tables) made u =
+    c.put_unit.ensures ∙ ap (λ n. with_unit n (plain_typed_unit c.into_inner.result) u) number ∙ ap (λ v. with_unit (operation_unit found tables) (plain_typed_unit v) u) c.into_inner.ensures in
+    let opened = ap (λ y. checked_operation y (at_place object parts here) awaited tables) (operation_body_open c.args.node.now) ∙ operation_opened x.kind x.at i fs ds source (at_place object parts here) awaited tables in
+    subst (ChecksBodies old new c.matched-unit.new.awaited.items end) (sym opened)
+    (operation_left_here old headed new tables entry u end head x.at i fs ds source object parts here awaited c.matched-unit.new.awaited.items own made noted_head inner kept checked still put)
+
+pub operation_bodies-loop-next-init : goal.operation_bodies-loop-next-init
+operation_bodies-loop-next-init t c = all_ahead c.args.faults.now (checked_bodies (operation_body_list c.args.bodies.now) (both_places c.args.declared_parts c.args.inside c.args.in_function) c.args.awaited.now.items (plain_tables c.args.tables.now))
+
+pub operation_bodies-loop-next-preserved : goal.operation_bodies-loop-next-preserved
+operation_bodies-loop-next-preserved t c =
+    let x = c.next-item.result in
+    let i = c.loop-next.next-index in
+    let d = c.args.declared_parts in
+    let places : BodyPlaces = both_places d c.args.inside c.args.in_function in
+    let stands = c.place_of.result in
+    let tables : Tables = plain_tables c.loop-next.tables in
+    let awaited = c.loop-next.awaited.items in
+    let still = c.operation_body.new.awaited.items in
+    let mid = c.loop-next.faults in
+    let new = c.operation_body.new.faults in
+    let u : Tables = plain_tables c.operation_body.new.tables in
+    let same = stands_in_one x d.object d.parts.now (plain_place stands.0.now stands.1.now) places.inside places.in_function awaited tables c.place_of.ensures in
+    one_body places c.args.faults.now mid new tables u awaited still x (drop i c.args.bodies.now) (drop (i + 1) c.args.bodies.now)
+    (checked_bodies (operation_body_list c.args.bodies.now) places c.args.awaited.now.items (plain_tables c.args.tables.now))
+    (dropped c.args.bodies.now i x (omega arith) c.next-item.is) c.loop-next.invariant (subst (ChecksBodies mid new still u) same c.in_ok-operation_body.ensures)
+
+pub operation_bodies-returns : goal.operation_bodies-returns
+operation_bodies-returns t c =
+    all_bodies (both_places c.args.declared_parts c.args.inside c.args.in_function) c.args.faults.now c.loop-next.faults (plain_tables c.loop-next.tables) c.loop-next.awaited.items (drop c.loop-next.next-index c.args.bodies.now)
+    (checked_bodies (operation_body_list c.args.bodies.now) (both_places c.args.declared_parts c.args.inside c.args.in_function) c.args.awaited.now.items (plain_tables c.args.tables.now)) (drop_all c.loop-next.next-index c.args.bodies.now c.loop-next-test.false) c.loop-next.invariant
+
+pub bodies_within-returns : goal.bodies_within-returns
+bodies_within-returns t c =
+    subst (λ l. OnOk c.operation_bodies.result (ChecksBodies c.args.faults.now c.operation_bodies.new.faults c.operation_bodies.new.awaited.items (plain_tables c.operation_bodies.new.tables) (checked_bodies (operation_body_list l) (both_places c.args.declared_parts c.args.inside c.args.in_function) c.args.awaited.now.items (plain_tables c.args.tables.now)))) c.deref.ensures.value c.operation_bodies.ensures
+
+pub protected_body-returns : goal.protected_body-returns
+protected_body-returns t c =
+    let x = out-ProtectedBody c.args.node.now in
+    let i = x.name in
+    let first = c.args.part.now in
+    let seen = c.args.outer.now in
+    let place : Place = plain_place first.region seen in
+    let tables : Tables = plain_tables c.args.tables.now in
+    let old = c.args.faults.now in
+    let matched = c.body_number.new.faults in
+    let bodied = c.bodies_within.new.faults in
+    let missed = c.without_part_bodies.new.faults in
+    let new = c.right_name_at_end.new.faults in
+    let entry : Tables = plain_tables c.body_number.new.tables in
+    let u : Tables = plain_tables c.bodies_within.new.tables in
+    let come = c.body_number.new.region in
+    let last : DeclarativePart = record { region = come; elaborations = first.elaborations } in
+    let here : Place = object_behind i place in
+    let found = object_awaited i place in
+    let object = c.in_ok-object.object in
+    let number = body_object found tables in
+    let numbered : object ≡ number = c.in_ok-object.ensures.number in
+    let behind : plain_place come seen ≡ here = ap (λ r. place_in r (plain_regions seen)) c.in_ok-object.ensures.region in
+    let parts : come.parts.items ≡ (innermost here).parts = ap (λ (r : Region). r.parts) c.in_ok-object.ensures.region in
+    let listed : c.in_ok-awaited.awaited.items ≡ awaited_parts number (innermost here).parts =
+    c.in_ok-awaited.ensures ∙ ap (awaited_parts object) (c.deref.ensures.value ∙ parts) ∙ ap (λ n. awaited_parts n (innermost here).parts) numbered in
+    let inside : plain_place c.in_ok-inside.inside.own c.deref-3.result.now ≡ object_place i.name number Inside here =
+    ap (plain_place c.in_ok-inside.inside.own) c.deref-3.ensures.value
+    ∙ stands_in c.in_ok-inside.inside come seen c.in_ok-around.around.items i.name object number Inside here c.in_ok-inside.ensures c.in_ok-around.ensures behind numbered in
+    let in_function : plain_place c.in_ok-in_function.in_function.own c.deref-4.result.now ≡ object_place i.name number InFunction here =
+    ap (plain_place c.in_ok-in_function.in_function.own) c.deref-4.ensures.value
+    ∙ stands_in c.in_ok-in_function.in_function come seen c.in_ok-around_function.around_function.items i.name object number InFunction here c.in_ok-in_function.ensures c.in_ok-around_function.ensures behind numbered in
+    let places = places_are object number c.deref-2.result.now (plain_place c.in_ok-inside.inside.own c.deref-3.result.now) (plain_place c.in_ok-in_function.in_function.own c.deref-4.result.now) i.name here
+    numbered (c.deref-2.ensures.value ∙ parts) inside in_function in
+    let still = c.bodies_within.new.awaited.items in
+    let given : m.OperationBodies → BodyPlaces → List AwaitedPart → Type 0 = λ l o a. ChecksBodies matched bodied still u (checked_bodies l o a entry) in
+    let bodies = operation_body_list x.bodies.items in
+    let checked : given bodies (body_places i.name number here) (awaited_parts number (innermost here).parts) =
+    subst (λ a. given bodies (body_places i.name number here) a) listed
+    (subst (λ o. given bodies o c.in_ok-awaited.awaited.items) places c.in_ok-bodies_within.ensures) in
+    subst (λ z. Declares old new seen first last u (checked_declaration z place tables)) (sym (protected_body_open c.args.node.now))
+    (object_left old matched bodied missed new seen first last tables entry u x.at i bodies x.end_name still c.in_ok-object.ensures.noted behind refl c.in_ok-object.ensures.tables checked
+    (c.without_part_bodies.ensures ∙ ap (λ l. noted bodied (without_part_bodies l)) c.deref-5.ensures.value) c.right_name_at_end.ensures)
 
 pub task_part-returns : goal.task_part-returns
 task_part-returns t c =
@@ -868,8 +1040,8 @@ task_body-returns t c =
     let whole = entered_left matched shown_faults stated_faults entry shown_tables u true ds source task_around own (plain_place part.region regions.items) (plain_items part.elaborations) body enters.0 enters.1 enters.2 enters.3 stated in
     let ends : new ≡ noted stated_faults (right_name_at_end x.name.name (end_name source)) =
     c.right_name_at_end.ensures ∙ ap (λ z. noted stated_faults (right_name_at_end x.name.name (end_name z))) (sym (body_open x.body)) in
-    let unit : ℕ → tree.UnitBody = λ n. record { level = level; region = n; at = x.at; body = body } in
-    let leveled_unit : ℕ → tree.UnitBody = λ k. record { level = k; region = next_region entry; at = x.at; body = body } in
+    let unit : ℕ → tree.UnitBody = λ n. record { level = level; region = n; is_function = false; at = x.at; body = body } in
+    let leveled_unit : ℕ → tree.UnitBody = λ k. record { level = k; region = next_region entry; is_function = false; at = x.at; body = body } in
     let leveled : (innermost own).level ≡ level = ap (λ (r : Region). r.level) c.in_ok-region.ensures ∙ entries_level given c.deref.result.now (own_region level given) in
     let checked : Is matched new u made (checked_unit true x.at x.name.name ds source own entry) =
     unit_left matched stated_faults new entry u true x.at x.name.name ds source own body made whole ends (c.in_ok-unit.ensures ∙ ap unit c.next_region-own.ensures ∙ ap leveled_unit (sym leveled)) in

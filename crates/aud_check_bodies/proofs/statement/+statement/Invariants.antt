@@ -1,12 +1,14 @@
 use Rattle.std.proofs.Common.{drop, map}
-use Rattle.aud_syntax.specs.Ties.View.{plain_others, arm_list, guarded_list, handler_list, plain_declarations}
+use Rattle.aud_syntax.specs.Ties.View.{plain_others, arm_list, guarded_list, handler_list, plain_declarations, operation_body_list}
 use Rattle.aud_typed.specs.Ties.View.{plain_statement}
-use Rattle.aud_check_bodies.specs.Statements.{checked_others, checked_arms, checked_alternatives, checked_handlers, checked_declarations}
+use Rattle.aud_check_bodies.specs.Statements.{checked_others, checked_arms, checked_alternatives, checked_handlers, checked_declarations, checked_bodies}
 use Rattle.aud_check_bodies.specs.Ties.Arms.{plain_arm, plain_handler, plain_alternative}
 use Rattle.aud_names.specs.Ties.Regions.{plain_place}
 use Rattle.aud_check_bodies.specs.Ties.Tables.{plain_tables}
 use Rattle.aud_check_bodies.specs.Ties.Within.{around_of}
+use Rattle.aud_check_bodies.specs.Ties.Objects.{both_places}
 use Rattle.aud_check_bodies.proofs.Declared.{DeclaresAhead}
+use Rattle.aud_check_bodies.proofs.ObjectBodies.{BodiesAhead}
 use Rattle.aud_check_bodies.proofs.Walked.{Left}
 use Rattle.aud_check_bodies.proofs.statement.+statement.Given as goal
 
@@ -24,3 +26,8 @@ invariant-alternatives-loop-next l = Left (map plain_alternative l.typed.items) 
 
 abbrev pub invariant-declarations-loop-next : goal.invariant-declarations-loop-next
 invariant-declarations-loop-next l = DeclaresAhead l.faults l.part (checked_declarations (plain_declarations (drop l.next-index l.declarations)) (plain_place l.part.region l.outer) (plain_tables l.tables)) l.fn.faults l.fn.part (checked_declarations (plain_declarations l.fn.declarations) (plain_place l.fn.part.region l.fn.outer) (plain_tables l.fn.tables))
+
+abbrev pub invariant-operation_bodies-loop-next : goal.invariant-operation_bodies-loop-next
+invariant-operation_bodies-loop-next l =
+    BodiesAhead l.faults (checked_bodies (operation_body_list (drop l.next-index l.bodies)) (both_places l.declared_parts l.inside l.in_function) l.awaited.items (plain_tables l.tables))
+    l.fn.faults (checked_bodies (operation_body_list l.bodies) (both_places l.fn.declared_parts l.fn.inside l.fn.in_function) l.fn.awaited.items (plain_tables l.fn.tables))

@@ -51,7 +51,7 @@ returns c =
     let entered = entered_left old declared stated main_tables entry u false ds source nothing_around place (plain_place part.region outer) (plain_items part.elaborations) body enters.0 enters.1 enters.2 enters.3 c.in_ok-body.ensures in
     let named : new ≡ noted stated (right_name_at_end main.name (end_name source)) =
     c.right_name_at_end.ensures ∙ ap (λ z. noted stated (right_name_at_end main.name (end_name z))) (sym (body_open node.body)) in
-    let unit : ℕ → tree.UnitBody = λ n. record { level = 0; region = n; at = node.at; body = body } in
+    let unit : ℕ → tree.UnitBody = λ n. record { level = 0; region = n; is_function = false; at = node.at; body = body } in
     let checked : Is old new u made whole =
     unit_left old stated new main_tables u false node.at main.name ds source place body made entered named (c.in_ok-main.ensures ∙ ap unit (c.next_region-number.ensures ∙ ap next_region begun)) in
     let final : Tables = plain_tables c.put_unit.new.self in

@@ -5,7 +5,7 @@ use Rattle.aud_debug.proofs.queues.entry_name.Goals as goal
 pub returns-in-Some : goal.returns-in-Some
 returns-in-Some c =
     let at = rw c.deref.ensures.value at c.in-Some.ensures.lookup in
-    c.as_bytes.ensures ∙ name_found c.args.compiled.program.now.entries.items c.args.entry c.in-Some.name.now at.3.0 at.1
+    c.as_bytes.ensures ∙ name_found c.args.compiled.program.now.entries.items c.args.entry c.in-Some.entry.now at.3.0 at.1
 
 pub returns-in-None : goal.returns-in-None
 returns-in-None c =

@@ -7,4 +7,4 @@ use Rattle.aud_debug.proofs.queues.push_each.Given as goal
 abbrev pub invariant-loop-entry : goal.invariant-loop-entry
 invariant-loop-entry l =
     let plan = (plain_program l.compiled.program.now).plan in
-    Comes l.page l.initial.page (entry_lines plan l.task (drop l.entry-index l.entries) l.state) (entry_lines plan l.task l.entries l.state)
+    Comes l.page l.initial.page (entry_lines plan l.owner (drop l.entry-index l.entries) l.state) (entry_lines plan l.owner l.entries l.state)

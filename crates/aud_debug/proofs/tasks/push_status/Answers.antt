@@ -15,7 +15,7 @@ returns c =
     let s = c.args.state.now in
     let out = c.args.out.now.items in
     let abnormal = abnormal_word plan (barrier_at code) (own_of n s) in
-    let word = c.in_ok-extend_from_slice.ensures.items ∙ ap (λ w. out ++ w) (c.status_word.ensures ∙ c.status_of-status.ensures plan refl) in
+    let word = c.in_ok-extend_from_slice.ensures.items ∙ ap (λ w. out ++ w) (c.status_word.ensures ∙ c.status_of-status.ensures) in
     on_ok_weaker c.push_abnormal.result
     (λ e. e ∙ (ap (λ x. x ++ abnormal) word ∙ append_assoc out (status_in plan code n s) abnormal))
     (c.push_abnormal.ensures plan (barrier_at code))

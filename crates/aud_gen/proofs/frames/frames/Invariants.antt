@@ -1,4 +1,4 @@
-use Rattle.std.proofs.Common.{◌≡◌, drop, length, map}
+use Rattle.std.proofs.Common.{drop, length, map}
 use Rattle.aud_code.specs.View.{plain_line}
 use Rattle.aud_layout.specs.Opened.{BodiesCount}
 use Rattle.aud_gen.specs.Opening.{level_in, AreOrdered}

@@ -1,6 +1,5 @@
-use Rattle.std.proofs.Common.{◌<◌, ◌≤◌, ◌≡◌, ◌∙◌, ap, sym, refl, length, arith, Some, None, Option}
+use Rattle.std.proofs.Common.{◌<◌, ◌≤◌, ◌∙◌, sym, refl, length, arith}
 use Rattle.std.proofs.lemmas.Option.{slice_get_read}
-use Rattle.aud_code.specs.Flat.{EndLine}
 use Rattle.aud_code.proofs.Plainly.{found_there, found_later, found_behind}
 use Rattle.aud_gen.proofs.Openings.{same_within}
 use Rattle.aud_gen.proofs.frames.step_within.Goals as goal

@@ -1,4 +1,4 @@
-use Rattle.std.proofs.Common.{◌≡◌, ◌+◌, drop, refl, ◌∙◌, arith}
+use Rattle.std.proofs.Common.{◌≡◌, ◌+◌, drop, false, refl, ◌∙◌, arith}
 use Rattle.aud_code.specs.declared.counts.Counts.{Counts}
 use Rattle.aud_code.specs.Tabled.{behind_line, counts}
 use Rattle.aud_code.specs.View.{plain_line}
@@ -7,7 +7,7 @@ use Rattle.aud_gen.proofs.operands.operands.Goals.{in-Instruction+in_ok-before-i
 use Rattle.aud_gen.proofs.operands.operands.Goals as goal
 
 abbrev NOTHING : Counts
-NOTHING = record { integers = 0; booleans = 0; targets = 0; names = 0 }
+NOTHING = record { integers = 0; booleans = 0; targets = 0; names = 0; cells = false }
 
 pub loop-line-preserved : goal.loop-line-preserved
 loop-line-preserved c =

@@ -1,5 +1,5 @@
 use Rattle.std.proofs.Common.{arith}
-use Rattle.aud_gen.proofs.Openings.{one_type, all_types}
+use Rattle.aud_gen.proofs.Openings.{all_types}
 use Rattle.aud_gen.proofs.program.task_bodies.Goals as goal
 
 pub returns : goal.returns

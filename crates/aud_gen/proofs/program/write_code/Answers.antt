@@ -1,8 +1,8 @@
 use Rattle.std.proofs.Common.{◌≡◌, length, length-append, ◌∷◌, ◌++◌, ◌+◌, [], drop, map, ap, sym, ◌∙◌, arith}
 use Rattle.std.proofs.lemmas.List.{drop_all, length-map}
 use Rattle.aud_typed.specs.Ties.View.{body_in}
-use Rattle.aud_code.specs.View.{plain_line}
-use Rattle.aud_gen.specs.Writes.{bodies_in}
+use Rattle.aud_code.specs.View.{plain_barrier, plain_line}
+use Rattle.aud_gen.specs.Writes.{barriers_in, bodies_in}
 use Rattle.aud_gen.proofs.Loops.{dropped}
 use Rattle.aud_gen.proofs.Openings.{written_long, written_ordered}
 use Rattle.aud_gen.proofs.Units.{with_units, with_starts, with_spare, one_unit, one_start, one_spare, units_written}
@@ -29,7 +29,7 @@ returns-clause-code c =
     let units = c.args.units.now in
     let none : bodies_in (drop c.loop-unit.unit-index units) ≡ [] = ap bodies_in (drop_all c.loop-unit.unit-index units (omega (arith, c.loop-unit-test.false))) in
     let inv = rw none at c.loop-unit.invariant in
-    units_written (bodies_in units) c.loop-unit.writer (map plain_line c.into_lines-lines.result.items) c.loop-unit.starts.items c.place-spare.result inv.0 inv.1.0 inv.1.1 c.place-spare.ensures (c.into_lines-lines.ensures ∙ c.in_ok-write_idle.ensures)
+    units_written (bodies_in units) (barriers_in c.args.entries.now) c.loop-unit.writer (map plain_line c.into_lines-lines.result.items) c.loop-unit.starts.items c.place-spare.result (map plain_barrier c.in_ok-barriers.barriers.items) inv.0 inv.1.0 inv.1.1 c.place-spare.ensures (c.into_lines-lines.ensures ∙ c.in_ok-write_idle.ensures) c.in_ok-barriers.ensures.plain
 
 pub frames-requires-clause-long : goal.frames-requires-clause-long
 frames-requires-clause-long c =

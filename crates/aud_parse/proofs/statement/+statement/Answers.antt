@@ -5,11 +5,12 @@ use Rattle.std.proofs.Common.{List, [], ◌∷◌, ap, sym, ◌∙◌, refl, rul
 use Rattle.aud_grammar.specs.Ties.Outcome.{o_rule, o_this, o_other, o_last, o_yes, o_no, o_more}
 use Rattle.aud_grammar.specs.Actions.{an_ident, token, made}
 use Rattle.aud_cursor.specs.Ties.Items.{list_item, vec_item}
-use Rattle.aud_parse.specs.Ties.Items.{handler_item, declaration_item, boxed_body_item, boxed_statements_item, guard_item, boxed_alternative_item}
+use Rattle.aud_parse.specs.Ties.Items.{handler_item, declaration_item, operation_body_item, boxed_body_item, boxed_statements_item, guard_item, boxed_alternative_item}
 use Rattle.aud_cursor.proofs.Passing.{to, exit, hand_after, hand_on, level_on, no_level, word_passes, token_passes, turns_push, heads_none, heads_push, heads_end, in_this, in_none}
 use Rattle.aud_parse_expr.proofs.Joined.{exit_all, no_more_still, at_room, fewer_still, ends}
 use Rattle.aud_parse.proofs.Completing.{completes, completes_in, exit_in, exit_among}
 use Rattle.aud_parse.proofs.Rolls.{arm_items, in_order_items, handler_items, block_items, declare_items, procedure_items, task_body_items, done_from, accept_items}
+use Rattle.aud_parse.proofs.Objects.{operation_body_items}
 use Rattle.aud_parse.proofs.Selects.{accept_alternative_items, delay_alternative_items, select_items, or_delay_items, or_else_items, select_call_items, accepting_items}
 use Rattle.aud_parse.proofs.Alternating.{accepts_end, delays_end, terminate_end, no_accept, no_first, turn, chain_none, chain_turn, chain_alternative, chain_push, chain_end, fails_on, fails_more_on, exit_may, begins_on, exit_completes}
 use Rattle.aud_parse.specs.Ties.Alternatives.{remaining}
@@ -84,8 +85,62 @@ declaration-returns-then-is t c = record { reads = hand_on _ c.args.start _ c.na
 pub declaration-returns-then-is-2 : goal.declaration-returns-then-is-2
 declaration-returns-then-is-2 t c = record { reads = hand_on _ c.args.start _ c.procedure.ensures.reads (λ k ds v o. o_rule (o_other (sym c.is.ensures ∙ c.if-is.false) (o_this (sym c.is-2.ensures ∙ c.if-is-2.true) o))); shorter = search rules }
 
+pub declaration-returns-then-is-3 : goal.declaration-returns-then-is-3
+declaration-returns-then-is-3 t c = record { reads = hand_on _ c.args.start _ c.task.ensures.reads (λ k ds v o. o_rule (o_other (sym c.is.ensures ∙ c.if-is.false) (o_other (sym c.is-2.ensures ∙ c.if-is-2.false) (o_this (sym c.is-3.ensures ∙ c.if-is-3.true) o)))); shorter = search rules }
+
 pub declaration-returns : goal.declaration-returns
-declaration-returns t c = record { reads = hand_on _ c.args.start _ c.task.ensures.reads (λ k ds v o. o_rule (o_other (sym c.is.ensures ∙ c.if-is.false) (o_other (sym c.is-2.ensures ∙ c.if-is-2.false) (o_last o)))); shorter = search rules }
+declaration-returns t c = record { reads = hand_on _ c.args.start _ c.protected.ensures.reads (λ k ds v o. o_rule (o_other (sym c.is.ensures ∙ c.if-is.false) (o_other (sym c.is-2.ensures ∙ c.if-is-2.false) (o_other (sym c.is-3.ensures ∙ c.if-is-3.false) (o_last o))))); shorter = search rules }
+
+pub operation_body-returns-in_err-head : goal.operation_body-returns-in_err-head
+operation_body-returns-in_err-head t c = exit _ _ _ c.from_residual.ensures.1 c.in_err-head.ensures.reads (λ k ds v o. o)
+
+pub operation_body-returns-in_err-declarations : goal.operation_body-returns-in_err-declarations
+operation_body-returns-in_err-declarations t c = exit _ _ _ c.from_residual-in_err-declarations.ensures.1 c.in_err-declarations.ensures.reads (λ k ds v o. c.in_ok-head.ensures.reads _ _ _ o)
+
+pub operation_body-returns-in_err-body : goal.operation_body-returns-in_err-body
+operation_body-returns-in_err-body t c = exit _ _ _ c.from_residual-in_err-body.ensures.1 c.in_err-body.ensures.reads (λ k ds v o. c.in_ok-head.ensures.reads _ _ _ (c.in_ok-declarations.ensures.reads _ _ _ o))
+
+pub operation_body-returns : goal.operation_body-returns
+operation_body-returns t c = record {
+  reads = λ k ds v o.
+      to (c.in_ok-head.ensures.reads _ _ _ (c.in_ok-declarations.ensures.reads _ _ _ (c.in_ok-body.ensures.reads _ _ _ o)))
+      (operation_body_items c.in_ok-operation.operation c.in_ok-head.head c.in_ok-declarations.declarations c.in_ok-body.body ds c.in_ok-operation.ensures);
+  shorter = omega (arith, c.in_ok-head.ensures.shorter, c.in_ok-declarations.ensures.shorter, c.in_ok-body.ensures.shorter);
+}
+
+pub operation_bodies-turns-preserved : goal.operation_bodies-turns-preserved
+operation_bodies-turns-preserved t c = record { turns = turns_push c.in_ok-next.next.value c.turns.invariant.turns (sym c.is_one_of.ensures ∙ c.turns-test.true) c.in_ok-next.ensures.reads c.in_ok-all.ensures; shorter = omega (arith, c.in_ok-next.ensures.shorter, c.turns.invariant.shorter) }
+
+pub operation_bodies-returns-in_err-next : goal.operation_bodies-returns-in_err-next
+operation_bodies-returns-in_err-next t c = exit _ _ _ c.from_residual.ensures.1 c.in_err-next.ensures.reads (λ k ds v o. c.turns.invariant.turns.by _ _ _ (o_more (sym c.is_one_of.ensures ∙ c.turns-test.true) o))
+
+pub protected_body-returns-in_err-rest : goal.protected_body-returns-in_err-rest
+protected_body-returns-in_err-rest t c = exit_in _ _ _ c.from_residual.ensures.1 (c.in_err-rest.ensures.reads c.args.room) (λ k ds v o. o_rule o)
+
+pub protected_body-returns-in_err-name : goal.protected_body-returns-in_err-name
+protected_body-returns-in_err-name t c = exit_in _ _ _ c.from_residual-in_err-name.ensures.1 (c.in_err-name.ensures.reads c.args.room) (λ k ds v o. o_rule (c.in_ok-rest.ensures.reads _ _ _ _ o))
+
+pub protected_body-returns-in_err-name-2 : goal.protected_body-returns-in_err-name-2
+protected_body-returns-in_err-name-2 t c = exit_in _ _ _ c.from_residual-in_err-name-2.ensures.1 (c.in_err-name-2.ensures.reads c.args.room) (λ k ds v o. o_rule (c.in_ok-rest.ensures.reads _ _ _ _ (c.in_ok-name.ensures.reads _ _ _ _ o)))
+
+pub protected_body-returns-in_err-bodies : goal.protected_body-returns-in_err-bodies
+protected_body-returns-in_err-bodies t c = exit_in _ _ _ c.from_residual-in_err-bodies.ensures.1 c.in_err-bodies.ensures.reads (λ k ds v o. o_rule (c.in_ok-rest.ensures.reads _ _ _ _ (c.in_ok-name.ensures.reads _ _ _ _ (c.in_ok-name-2.ensures.reads.1 _ _ _ _ o))))
+
+pub protected_body-returns : goal.protected_body-returns
+protected_body-returns t c =
+    completes_in (λ ds. made g.ProtectedBody (an_ident c.in_ok-name.name ∷ list_item operation_body_item c.in_ok-bodies.bodies.items ∷ ds)) _ c.args.start c.in_ok-bodies.rest _ (c.end_protected_body.ensures c.args.room)
+    (omega (arith, c.in_ok-rest.ensures.shorter, c.in_ok-name.ensures.shorter, c.in_ok-name-2.ensures.shorter, c.in_ok-bodies.ensures.shorter))
+    (λ k ds v o. o_rule (c.in_ok-rest.ensures.reads _ _ _ _ (c.in_ok-name.ensures.reads _ _ _ _ (c.in_ok-name-2.ensures.reads.1 _ _ _ _ (c.in_ok-bodies.ensures.reads _ _ _ o)))))
+    (λ ds. ap (λ z. made g.Protected (token c.args.begin.now ∷ made g.ProtectedBody (an_ident z ∷ list_item operation_body_item c.in_ok-bodies.bodies.items ∷ ds))) (sym c.in_ok-name-2.ensures.reads.0))
+
+pub protected-returns-in_err-begin : goal.protected-returns-in_err-begin
+protected-returns-in_err-begin t c = exit _ _ _ c.from_residual.ensures.1 (c.in_err-begin.ensures.reads c.args.room) (λ k ds v o. o_rule o)
+
+pub protected-returns-then-is : goal.protected-returns-then-is
+protected-returns-then-is t c = completes _ c.args.start c.in_ok-begin.rest _ c.protected_body.ensures (search rules) (λ k ds v o. o_rule (c.in_ok-begin.ensures.reads _ _ _ _ (o_rule (o_this (sym c.is.ensures ∙ c.if-is.true) o))))
+
+pub protected-returns : goal.protected-returns
+protected-returns t c = completes _ c.args.start c.in_ok-begin.rest _ c.protected_declaration.ensures (search rules) (λ k ds v o. o_rule (c.in_ok-begin.ensures.reads _ _ _ _ (o_rule (o_other (sym c.is.ensures ∙ c.if-is.false) (o_last o)))))
 
 pub declaration_list-turns-init : goal.declaration_list-turns-init
 declaration_list-turns-init t c = record { turns = heads_none c.new-all.ensures.items; shorter = search rules }

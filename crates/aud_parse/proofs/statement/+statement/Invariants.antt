@@ -1,6 +1,6 @@
 use Rattle.std.proofs.Common.{◌+◌, ◌*◌, ◌≤◌, length}
 use Rattle.aud_grammar.specs.Grammar as g
-use Rattle.aud_parse.specs.Ties.Items.{arm_item, handler_item, statement_item, declaration_item}
+use Rattle.aud_parse.specs.Ties.Items.{arm_item, handler_item, statement_item, declaration_item, operation_body_item}
 use Rattle.aud_cursor.proofs.Passing.{Turns, Heads}
 use Rattle.aud_parse.proofs.Alternating.{Chain}
 use Rattle.aud_parse.proofs.statement.+statement.Given as goal
@@ -62,11 +62,23 @@ decreases-task_body l = 32 * l.room + 6
 abbrev pub decreases-task : goal.decreases-task
 decreases-task l = 32 * l.room + 7
 
+abbrev pub decreases-operation_body : goal.decreases-operation_body
+decreases-operation_body l = 32 * l.room + 6
+
+abbrev pub decreases-operation_bodies : goal.decreases-operation_bodies
+decreases-operation_bodies l = 32 * l.room + 7
+
+abbrev pub decreases-protected_body : goal.decreases-protected_body
+decreases-protected_body l = 32 * l.room + 8
+
+abbrev pub decreases-protected : goal.decreases-protected
+decreases-protected l = 32 * l.room + 9
+
 abbrev pub decreases-declaration : goal.decreases-declaration
-decreases-declaration l = 32 * l.room + 8
+decreases-declaration l = 32 * l.room + 10
 
 abbrev pub decreases-declaration_list : goal.decreases-declaration_list
-decreases-declaration_list l = 32 * l.room + 9
+decreases-declaration_list l = 32 * l.room + 11
 
 abbrev pub decreases-labelled : goal.decreases-labelled
 decreases-labelled l = 32 * l.room + 7
@@ -100,6 +112,12 @@ invariant-handler_list-turns l = record { turns : Heads handler_item g.Handler g
 
 abbrev pub decreases-handler_list-turns : goal.decreases-handler_list-turns
 decreases-handler_list-turns l = length l.rest.tokens.now
+
+abbrev pub invariant-operation_bodies-turns : goal.invariant-operation_bodies-turns
+invariant-operation_bodies-turns l = record { turns : Turns operation_body_item g.OperationBody l.room l.start.tokens.now l.all.items l.rest.tokens.now; shorter : length l.rest.tokens.now ≤ length l.start.tokens.now }
+
+abbrev pub decreases-operation_bodies-turns : goal.decreases-operation_bodies-turns
+decreases-operation_bodies-turns l = length l.rest.tokens.now
 
 abbrev pub invariant-declaration_list-turns : goal.invariant-declaration_list-turns
 invariant-declaration_list-turns l = record { turns : Heads declaration_item g.Declaration g.Declaration l.room l.start.tokens.now l.all.items l.rest.tokens.now; shorter : length l.rest.tokens.now ≤ length l.start.tokens.now }

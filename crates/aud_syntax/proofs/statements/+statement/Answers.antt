@@ -6,11 +6,14 @@ use Rattle.aud_syntax.specs.declared.tree.BlockStatement.{out-BlockStatement}
 use Rattle.aud_syntax.specs.declared.tree.Body.{out-Body}
 use Rattle.aud_syntax.specs.declared.tree.ProcedureDeclaration.{out-ProcedureDeclaration}
 use Rattle.aud_syntax.specs.declared.tree.TaskBody.{out-TaskBody}
+use Rattle.aud_syntax.specs.declared.tree.ProtectedBody.{out-ProtectedBody}
+use Rattle.aud_syntax.specs.declared.tree.OperationBody.{out-OperationBody}
 use Rattle.aud_syntax.specs.declared.tree.AcceptStatement.{out-AcceptStatement}
 use Rattle.aud_syntax.specs.declared.tree.SelectStatement.{out-SelectStatement}
-use Rattle.aud_syntax.specs.Ties.View.{plain_expression, plain_statement, plain_others, plain_statements, arm_list, plain_iteration, plain_choices, plain_formal, plain_declaration, plain_declarations, plain_body, handler_list, plain_name, plain_maybe, plain_done, guarded_list, plain_alternative, plain_other}
-use Rattle.aud_syntax.specs.Why.Printed.{ident_word, expression_words, label_words, iteration_words, end_words, arm_words, arms_words, otherwise_words, statement_words, more_statements_words, statements_words, declare_words, formals_words, declaration_words, declarations_words, body_words, choices_words, handler_words, handlers_words, handled_words, head_words, doing_words, call_words, guard_words, guarded_words, alternative_words, alternatives_words, other_words, end_select_words}
-use Rattle.aud_syntax.proofs.Written.{all_written, next_written, if_written, loop_written, else_written, block_written, procedure_written, task_body_written, enclosed_written, begin_written, handled_written, accept_written, select_written, selected_call_written, accept_alternative_written, delay_alternative_written, or_delay_written, or_else_written, both_written}
+use Rattle.aud_syntax.specs.Ties.View.{plain_expression, plain_statement, plain_others, plain_statements, arm_list, plain_iteration, plain_choices, plain_formal, plain_declaration, plain_declarations, plain_body, handler_list, plain_name, plain_maybe, plain_done, guarded_list, plain_alternative, plain_other, plain_operation_body, operation_body_list}
+use Rattle.aud_syntax.specs.Why.Printed.{ident_word, expression_words, label_words, iteration_words, end_words, arm_words, arms_words, otherwise_words, statement_words, more_statements_words, statements_words, declare_words, formals_words, declaration_words, declarations_words, body_words, choices_words, handler_words, handlers_words, handled_words, head_words, doing_words, call_words, guard_words, guarded_words, alternative_words, alternatives_words, other_words, end_select_words, operation_body_words, operation_bodies_words, ending_words}
+use Rattle.aud_syntax.specs.Ties.Heads.{operation_head_words}
+use Rattle.aud_syntax.proofs.Written.{all_written, next_written, if_written, loop_written, else_written, block_written, procedure_written, task_body_written, protected_body_written, operation_body_written, enclosed_written, begin_written, handled_written, accept_written, select_written, selected_call_written, accept_alternative_written, delay_alternative_written, or_delay_written, or_else_written, both_written}
 use Rattle.aud_syntax.proofs.statements.+statement.Goals as goal
 
 pub push_arm-returns : goal.push_arm-returns
@@ -134,6 +137,32 @@ push_task_body-returns t c =
     (all_written c.push_body.result c.push_two_words.new.out.items c.push_ident.new.out.items c.push_body.new.out.items (ident_word x.name ∷ []) (last_word (codes "is") ∷ [] ++ (declarations ++ (rest))) c.in_ok-push_ident.ensures
     (all_written c.push_body.result c.push_ident.new.out.items c.push_last_word.new.out.items c.push_body.new.out.items (last_word (codes "is") ∷ []) (declarations ++ (rest)) c.in_ok-push_last_word.ensures
     (all_written c.push_body.result c.push_last_word.new.out.items c.push_declarations.new.out.items c.push_body.new.out.items declarations rest (rw c.deref.ensures.value at c.in_ok-push_declarations.ensures) c.push_body.ensures))))
+
+pub push_protected_body-returns : goal.push_protected_body-returns
+push_protected_body-returns t c =
+    let x = out-ProtectedBody c.args.object.now in
+    let bodies = operation_bodies_words (operation_body_list x.bodies.items) in
+    let end = ending_words x.end_name in
+    protected_body_written c.push_ending.result c.args.out.now.items c.push_ending.new.out.items c.args.object.now
+    (all_written c.push_ending.result c.args.out.now.items c.push_two_words.new.out.items c.push_ending.new.out.items (word (codes "protected") ∷ word (codes "body") ∷ []) (ident_word x.name ∷ [] ++ (last_word (codes "is") ∷ [] ++ (bodies ++ end))) c.in_ok-push_two_words.ensures
+    (all_written c.push_ending.result c.push_two_words.new.out.items c.push_ident.new.out.items c.push_ending.new.out.items (ident_word x.name ∷ []) (last_word (codes "is") ∷ [] ++ (bodies ++ end)) c.in_ok-push_ident.ensures
+    (all_written c.push_ending.result c.push_ident.new.out.items c.push_last_word.new.out.items c.push_ending.new.out.items (last_word (codes "is") ∷ []) (bodies ++ end) c.in_ok-push_last_word.ensures
+    (all_written c.push_ending.result c.push_last_word.new.out.items c.push_operation_bodies.new.out.items c.push_ending.new.out.items bodies end (rw c.deref.ensures.value at c.in_ok-push_operation_bodies.ensures) c.push_ending.ensures))))
+
+pub push_operation_bodies-loop-next-preserved : goal.push_operation_bodies-loop-next-preserved
+push_operation_bodies-loop-next-preserved t c =
+    next_written (λ xs. operation_bodies_words (operation_body_list xs)) (λ x. operation_body_words (plain_operation_body x)) (λ x xs. refl) c.args.bodies.now c.loop-next.next-index c.next-item.result (omega arith) c.next-item.is c.loop-next.out.items c.push_operation_body.new.out.items _ c.loop-next.invariant c.in_ok-push_operation_body.ensures
+
+pub push_operation_body-returns : goal.push_operation_body-returns
+push_operation_body-returns t c =
+    let x = out-OperationBody c.args.operation.now in
+    let head = operation_head_words x.kind x.name (map plain_formal x.formals.items) in
+    let declarations = declarations_words (plain_declarations x.declarations.items) in
+    let rest = body_words (plain_body x.body) in
+    operation_body_written c.push_body.result c.args.out.now.items c.push_body.new.out.items c.args.operation.now
+    (all_written c.push_body.result c.args.out.now.items c.push_operation_head.new.out.items c.push_body.new.out.items head (last_word (codes "is") ∷ [] ++ (declarations ++ rest)) (rw c.deref.ensures.value at c.in_ok-push_operation_head.ensures)
+    (all_written c.push_body.result c.push_operation_head.new.out.items c.push_last_word.new.out.items c.push_body.new.out.items (last_word (codes "is") ∷ []) (declarations ++ rest) c.in_ok-push_last_word.ensures
+    (all_written c.push_body.result c.push_last_word.new.out.items c.push_declarations.new.out.items c.push_body.new.out.items declarations rest (rw c.deref-2.ensures.value at c.in_ok-push_declarations.ensures) c.push_body.ensures)))
 
 pub push_accept-returns : goal.push_accept-returns
 push_accept-returns t c =

@@ -1,7 +1,7 @@
 use Rattle.std.proofs.Common.{◌≡◌, ◌++◌, drop}
 use Rattle.aud_lex.specs.Why.Spaced.{spaced}
-use Rattle.aud_syntax.specs.Ties.View.{plain_declarations, plain_others, arm_list, handler_list, guarded_list}
-use Rattle.aud_syntax.specs.Why.Printed.{declarations_words, more_statements_words, arms_words, handlers_words, alternatives_words}
+use Rattle.aud_syntax.specs.Ties.View.{plain_declarations, plain_others, arm_list, handler_list, guarded_list, operation_body_list}
+use Rattle.aud_syntax.specs.Why.Printed.{declarations_words, more_statements_words, arms_words, handlers_words, alternatives_words, operation_bodies_words}
 use Rattle.aud_syntax.proofs.statements.+statement.Given as goal
 
 abbrev pub invariant-push_declarations-loop-next : goal.invariant-push_declarations-loop-next
@@ -18,3 +18,6 @@ invariant-push_handlers-loop-next l = l.out.items ++ spaced (handlers_words (han
 
 abbrev pub invariant-push_alternatives-loop-next : goal.invariant-push_alternatives-loop-next
 invariant-push_alternatives-loop-next l = l.out.items ++ spaced (alternatives_words (guarded_list (drop l.next-index l.others))) ≡ l.fn.out.items ++ spaced (alternatives_words (guarded_list l.fn.others))
+
+abbrev pub invariant-push_operation_bodies-loop-next : goal.invariant-push_operation_bodies-loop-next
+invariant-push_operation_bodies-loop-next l = l.out.items ++ spaced (operation_bodies_words (operation_body_list (drop l.next-index l.bodies))) ≡ l.fn.out.items ++ spaced (operation_bodies_words (operation_body_list l.fn.bodies))

@@ -1,11 +1,15 @@
 use Rattle.std.proofs.Common.{Some, None, sym, ◌∙◌}
 use Rattle.aud_typed.specs.Ties.View.{plain_program}
-use Rattle.aud_tasks.proofs.Results.{if_ok}
+use Rattle.aud_tasks.proofs.Results.{if_ok, if_on_ok}
+use Rattle.aud_tasks.proofs.Ticking.{no_more}
 use Rattle.aud_tasks.proofs.StepLaws.Stepping.{acts_so}
 use Rattle.aud_tasks.proofs.act.act.Goals as goal
 
-pub returns-in_ok-propagate-in-Some-clause-does : goal.returns-in_ok-propagate-in-Some-clause-does
-returns-in_ok-propagate-in-Some-clause-does c = acts_so (plain_program c.args.compiled.program.now).plan c.args.compiled.code.now c.args.compiled.limits c.args.alternative c.args.n (Some c.in-Some.pending) c.args.state.now _ (sym c.in-Some.is ∙ c.pending.ensures) (c.in_ok-propagate-in-Some.ensures c.args.alternative)
+pub returns-in-Some-clause-does : goal.returns-in-Some-clause-does
+returns-in-Some-clause-does c = if_on_ok c.propagate.result _ _ c.propagate.ensures.does (λ h. acts_so (plain_program c.args.compiled.program.now).plan c.args.compiled.code.now c.args.compiled.limits c.args.alternative c.args.n (Some c.in-Some.pending) c.args.state.now _ (sym c.in-Some.is ∙ c.pending.ensures) (h c.args.alternative))
 
 pub returns-in-None-clause-does : goal.returns-in-None-clause-does
 returns-in-None-clause-does c = if_ok c.execute.result _ _ c.execute.ensures.does (λ ticks h. acts_so (plain_program c.args.compiled.program.now).plan c.args.compiled.code.now c.args.compiled.limits c.args.alternative c.args.n None c.args.state.now _ (sym c.in-None.is ∙ c.pending.ensures) h)
+
+pub returns-in-Some-clause-few : goal.returns-in-Some-clause-few
+returns-in-Some-clause-few c = if_ok c.propagate.result _ _ c.propagate.ensures.few (λ ticks h. no_more (plain_program c.args.compiled.program.now).plan c.args.compiled.code.now ticks h)

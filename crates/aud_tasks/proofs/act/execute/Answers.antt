@@ -5,7 +5,9 @@ use Rattle.aud_code.specs.Instruction.{Ended}
 use Rattle.aud_expr.specs.Flow.{evaluated_at}
 use Rattle.aud_state.specs.Fast.{scene}
 use Rattle.aud_tasks.specs.Acting.{DoesEnd}
+use Rattle.aud_tasks.proofs.Results.{if_ok, if_on_ok}
 use Rattle.aud_tasks.proofs.StepLaws.Stepping.{no_end_behind, spot_at, starts}
+use Rattle.aud_tasks.proofs.Ticking.{no_more}
 use Rattle.aud_tasks.proofs.act.execute.Goals as goal
 
 pub evaluate-requires-clause-begins : goal.evaluate-requires-clause-begins
@@ -14,10 +16,13 @@ evaluate-requires-clause-begins c = λ t there.
     starts c.args.compiled.code.now.lines t.control.place (spot_at c.args.compiled.code.now.lines c.args.state.now.tasks c.args.n t c.requires.spots there).place (omega (arith, e))
 
 pub returns-then-place-len-clause-does : goal.returns-then-place-len-clause-does
-returns-then-place-len-clause-does c = λ t there.
+returns-then-place-len-clause-does c = if_on_ok c.leave.result _ _ c.leave.ensures.does (λ h t there.
     let e = c.place-place.ensures t there in
-    subst (λ (l : EndLine). DoesEnd (plain_program c.args.compiled.program.now).plan c.args.compiled.code.now c.args.compiled.limits c.args.alternative c.args.n l (evaluated_at c.args.compiled.code.now t.control.place (scene c.args.n c.args.state.now)) c.args.state.now c.leave.new.state) (sym (no_end_behind c.args.compiled.code.now t.control.place (omega (arith, e)))) (c.in_ok-leave.ensures (plain_program c.args.compiled.program.now).plan c.args.compiled.limits c.args.alternative)
+    subst (λ (l : EndLine). DoesEnd (plain_program c.args.compiled.program.now).plan c.args.compiled.code.now c.args.compiled.limits c.args.alternative c.args.n l (evaluated_at c.args.compiled.code.now t.control.place (scene c.args.n c.args.state.now)) c.args.state.now c.leave.new.state) (sym (no_end_behind c.args.compiled.code.now t.control.place (omega (arith, e)))) (h c.args.alternative))
 
 pub returns-clause-does : goal.returns-clause-does
 returns-clause-does c = λ t there.
-    subst (λ (x : Ended). DoesEnd (plain_program c.args.compiled.program.now).plan c.args.compiled.code.now c.args.compiled.limits c.args.alternative c.args.n (end_at c.args.compiled.code.now t.control.place) x c.args.state.now c.follow.new.state) (c.in_ok-evaluated.ensures.ends t there) (c.in_ok-follow.ensures t there)
+    subst (λ (x : Ended). DoesEnd (plain_program c.args.compiled.program.now).plan c.args.compiled.code.now c.args.compiled.limits c.args.alternative c.args.n (end_at c.args.compiled.code.now t.control.place) x c.args.state.now c.follow.new.state) (c.in_ok-evaluated.ensures.ends t there) (c.in_ok-ticks.ensures.does t there)
+
+pub returns-then-place-len-clause-few : goal.returns-then-place-len-clause-few
+returns-then-place-len-clause-few c = if_ok c.leave.result _ _ c.leave.ensures.few (λ ticks h. no_more (plain_program c.args.compiled.program.now).plan c.args.compiled.code.now ticks h)

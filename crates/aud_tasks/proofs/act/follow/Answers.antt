@@ -12,8 +12,8 @@ reach-requires-clause-reached c = λ t there. subst (λ (x : Outcome). ReachesEn
 pub reach-requires-clause-fine : goal.reach-requires-clause-fine
 reach-requires-clause-fine c = λ t there. subst (λ (x : Outcome). FitsEnd x c.args.compiled.code.now t.control.place c.args.operands.now) c.in-Reaches.is (c.requires.fits t there)
 
-pub returns-in-Reaches : goal.returns-in-Reaches
-returns-in-Reaches c = subst (λ (x : Outcome). OnOk c.reach.result (EndsThere (plain_program c.args.compiled.program.now).plan c.args.compiled.code.now c.args.compiled.limits c.args.alternative c.args.n (ended x c.args.operands.now) c.args.state.now c.reach.new.state)) (sym c.in-Reaches.is) c.reach.ensures
+pub returns-in-Reaches-clause-does : goal.returns-in-Reaches-clause-does
+returns-in-Reaches-clause-does c = subst (λ (x : Outcome). OnOk c.reach.result (EndsThere (plain_program c.args.compiled.program.now).plan c.args.compiled.code.now c.args.compiled.limits c.args.alternative c.args.n (ended x c.args.operands.now) c.args.state.now c.reach.new.state)) (sym c.in-Reaches.is) c.reach.ensures.does
 
-pub returns-in-Fails : goal.returns-in-Fails
-returns-in-Fails c = subst (λ (x : Outcome). OnOk c.raise_there.result (EndsThere (plain_program c.args.compiled.program.now).plan c.args.compiled.code.now c.args.compiled.limits c.args.alternative c.args.n (ended x c.args.operands.now) c.args.state.now c.raise_there.new.state)) (sym c.in-Fails.is) c.raise_there.ensures
+pub returns-in-Fails-clause-does : goal.returns-in-Fails-clause-does
+returns-in-Fails-clause-does c = subst (λ (x : Outcome). OnOk c.raise_there.result (EndsThere (plain_program c.args.compiled.program.now).plan c.args.compiled.code.now c.args.compiled.limits c.args.alternative c.args.n (ended x c.args.operands.now) c.args.state.now c.raise_there.new.state)) (sym c.in-Fails.is) c.raise_there.ensures.does

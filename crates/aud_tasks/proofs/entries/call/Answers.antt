@@ -5,6 +5,7 @@ use Rattle.aud_meaning.specs.declared.state.Form.{Form}
 use Rattle.aud_meaning.specs.declared.state.Owner.TheVariants as owner
 use Rattle.aud_meaning.specs.Configuration.{Back, Call}
 use Rattle.aud_code.specs.Control.{going}
+use Rattle.aud_code.specs.Flat.{barrier_at}
 use Rattle.aud_code.specs.Eval.{form_in}
 use Rattle.aud_code.specs.View.{plain_kind}
 use Rattle.aud_state.specs.Fast.{scene}
@@ -13,7 +14,8 @@ use Rattle.aud_tasks.proofs.Results.{on_ok}
 use Rattle.aud_tasks.proofs.entries.call.Goals as goal
 
 pub returns : goal.returns
-returns c = on_ok c.call.result _ _ c.call.ensures (λ h barrier.
+returns c = on_ok c.call.result _ _ c.call.ensures (λ h.
+    let barrier = barrier_at c.args.compiled.code.now in
     let plan = (plain_program c.args.compiled.program.now).plan in
     let o = c.args.operands.now in
     let kind = plain_kind c.args.kind in

@@ -2,10 +2,12 @@ use Rattle.std.proofs.Common.{ap, ◌∙◌}
 use Rattle.aud_typed.specs.Ties.View.{plain_program}
 use Rattle.aud_meaning.specs.Tasks as effect
 use Rattle.aud_code.specs.Control.{going}
+use Rattle.aud_code.specs.Flat.{barrier_at}
 use Rattle.aud_tasks.proofs.Results.{on_ok}
 use Rattle.aud_tasks.proofs.entries.delay.Goals as goal
 
 pub returns : goal.returns
-returns c = on_ok c.delay-2.result _ _ c.delay-2.ensures (λ h alternative barrier.
+returns c = on_ok c.delay-2.result _ _ c.delay-2.ensures (λ h alternative.
+    let barrier = barrier_at c.args.compiled.code.now in
     let plan = (plain_program c.args.compiled.program.now).plan in
     h plan barrier ∙ ap (λ ms. effect.delays_for (going c.args.compiled.code.now) plan barrier ms c.args.at c.args.n c.args.state.now) (c.milliseconds-milliseconds.ensures ∙ c.delay.ensures))

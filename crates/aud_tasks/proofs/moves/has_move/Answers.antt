@@ -1,33 +1,39 @@
 use Rattle.std.proofs.Common.{ap, sym, ◌∙◌}
+use Rattle.aud_typed.specs.Ties.View.{plain_program}
 use Rattle.aud_meaning.specs.Parts.{is_idle, object_of, Closable}
 use Rattle.aud_meaning.specs.Run.{seen}
-use Rattle.aud_code.specs.Flat.{flat_controls}
+use Rattle.aud_meaning.specs.Tasks.{eligible}
+use Rattle.aud_code.specs.Flat.{barrier_at, flat_controls}
 use Rattle.aud_tasks.specs.declared.turn.Turn.TheVariants.{Acting, Cancelling, Closing, Completing, Expiring, Resting, Serving, Withdrawing}
 use Rattle.aud_tasks.specs.Moving.{alone_if, has_some, picked}
-use Rattle.aud_tasks.proofs.MoveLaws.Moving.{closes, only_if, serve_one, some_only, turn_told}
+use Rattle.aud_tasks.proofs.MoveLaws.Moving.{closes, only_if, serve_some, some_only, turn_told}
 use Rattle.aud_tasks.proofs.MoveLaws.Resting.{rests_none}
 use Rattle.aud_tasks.proofs.moves.has_move.Goals as goal
 
 pub returns-in-Resting : goal.returns-in-Resting
-returns-in-Resting c = λ plan none.
-    sym (ap has_some (turn_told plan c.args.code.now c.args.state.now c.args.task c.turn_of.result Resting (c.turn_of.ensures plan) c.in-Resting.is))
+returns-in-Resting c =
+    let plan = (plain_program c.args.compiled.program.now).plan in
+    sym (ap has_some (turn_told plan c.args.compiled.code.now c.args.state.now c.args.task c.turn_of.result Resting (c.turn_of.ensures plan) c.in-Resting.is))
 
 pub returns-in-Completing : goal.returns-in-Completing
-returns-in-Completing c = λ plan none.
-    sym (ap has_some (turn_told plan c.args.code.now c.args.state.now c.args.task c.turn_of.result Completing (c.turn_of.ensures plan) c.in-Completing.is))
+returns-in-Completing c =
+    let plan = (plain_program c.args.compiled.program.now).plan in
+    sym (ap has_some (turn_told plan c.args.compiled.code.now c.args.state.now c.args.task c.turn_of.result Completing (c.turn_of.ensures plan) c.in-Completing.is))
 
 pub returns-in-Serving : goal.returns-in-Serving
-returns-in-Serving c = λ plan none.
-    let code = c.args.code.now in
+returns-in-Serving c =
+    let plan = (plain_program c.args.compiled.program.now).plan in
+    let code = c.args.compiled.code.now in
     let s = c.args.state.now in
     let n = c.args.task in
     sym (ap has_some
-    (turn_told plan code s n c.turn_of.result (Serving c.in-Serving.field-0) (c.turn_of.ensures plan) c.in-Serving.is
-    ∙ serve_one plan code c.in-Serving.field-0.object n (seen plan (flat_controls plan code) s) none))
+    (turn_told plan code s n c.turn_of.result (Serving c.in-Serving.field-0) (c.turn_of.ensures plan) c.in-Serving.is)
+    ∙ serve_some plan code (eligible plan (barrier_at code) c.in-Serving.field-0.object (seen plan (flat_controls plan code) s)) n)
 
 pub returns-in-Closing : goal.returns-in-Closing
-returns-in-Closing c = λ plan none.
-    let code = c.args.code.now in
+returns-in-Closing c =
+    let plan = (plain_program c.args.compiled.program.now).plan in
+    let code = c.args.compiled.code.now in
     let s = c.args.state.now in
     let n = c.args.task in
     some_only plan code s c.closable.result n
@@ -37,8 +43,9 @@ returns-in-Closing c = λ plan none.
     ∙ sym (turn_told plan code s n c.turn_of.result Closing (c.turn_of.ensures plan) c.in-Closing.is))
 
 pub returns-in-Withdrawing : goal.returns-in-Withdrawing
-returns-in-Withdrawing c = λ plan none.
-    let code = c.args.code.now in
+returns-in-Withdrawing c =
+    let plan = (plain_program c.args.compiled.program.now).plan in
+    let code = c.args.compiled.code.now in
     let s = c.args.state.now in
     let n = c.args.task in
     some_only plan code s c.is_idle.result n
@@ -48,8 +55,9 @@ returns-in-Withdrawing c = λ plan none.
     ∙ sym (turn_told plan code s n c.turn_of.result (Withdrawing c.in-Withdrawing.object) (c.turn_of.ensures plan) c.in-Withdrawing.is))
 
 pub returns-in-Expiring : goal.returns-in-Expiring
-returns-in-Expiring c = λ plan none.
-    let code = c.args.code.now in
+returns-in-Expiring c =
+    let plan = (plain_program c.args.compiled.program.now).plan in
+    let code = c.args.compiled.code.now in
     let s = c.args.state.now in
     let n = c.args.task in
     c.has_ended_delay.ensures
@@ -59,8 +67,9 @@ returns-in-Expiring c = λ plan none.
     ∙ sym (turn_told plan code s n c.turn_of.result Expiring (c.turn_of.ensures plan) c.in-Expiring.is))
 
 pub returns-in-Cancelling : goal.returns-in-Cancelling
-returns-in-Cancelling c = λ plan none.
-    let code = c.args.code.now in
+returns-in-Cancelling c =
+    let plan = (plain_program c.args.compiled.program.now).plan in
+    let code = c.args.compiled.code.now in
     let s = c.args.state.now in
     let n = c.args.task in
     some_only plan code s c.can_be_cancelled.result n
@@ -69,12 +78,15 @@ returns-in-Cancelling c = λ plan none.
     ∙ sym (turn_told plan code s n c.turn_of.result Cancelling (c.turn_of.ensures plan) c.in-Cancelling.is))
 
 pub returns-in-Acting : goal.returns-in-Acting
-returns-in-Acting c = λ plan none.
-    let code = c.args.code.now in
+returns-in-Acting c =
+    let plan = (plain_program c.args.compiled.program.now).plan in
+    let code = c.args.compiled.code.now in
     let s = c.args.state.now in
     let n = c.args.task in
-    c.can_act.ensures plan
+    c.can_act.ensures
     ∙ ap has_some (sym (turn_told plan code s n c.turn_of.result Acting (c.turn_of.ensures plan) c.in-Acting.is))
 
 pub returns-then-rests : goal.returns-then-rests
-returns-then-rests c = λ plan none. sym (ap has_some (rests_none plan c.args.code.now c.args.task c.args.state.now (c.rests.ensures c.if-rests.true)))
+returns-then-rests c =
+    let plan = (plain_program c.args.compiled.program.now).plan in
+    sym (ap has_some (rests_none plan c.args.compiled.code.now c.args.task c.args.state.now (c.rests.ensures c.if-rests.true)))

@@ -1,4 +1,4 @@
-use Rattle.std.proofs.Common.{◌++◌, append-nil, refl, ap, sym, ◌∙◌, arith}
+use Rattle.std.proofs.Common.{◌++◌, append-nil, ap, sym, ◌∙◌, arith}
 use Rattle.aud_typed.specs.Ties.View.{plain_program}
 use Rattle.aud_tasks.specs.Enabled.{enabled_moves}
 use Rattle.aud_tasks.proofs.MoveLaws.Moving.{from, listed_more, moves_all, moves_none, moves_past}
@@ -11,16 +11,19 @@ returns-then-not-may_move c =
     c.clear.ensures.items ∙ sym (moves_none plan c.args.compiled.code.now c.args.state.now (sym c.may_move.ensures ∙ c.if-not-may_move.true))
 
 pub loop-task-init : goal.loop-task-init
-loop-task-init c = λ plan none. ap (λ ms. ms ++ from plan c.args.compiled.code.now c.args.state.now 0) c.clear.ensures.items
+loop-task-init c =
+    let plan = (plain_program c.args.compiled.program.now).plan in
+    ap (λ ms. ms ++ from plan c.args.compiled.code.now c.args.state.now 0) c.clear.ensures.items
 
 pub loop-task-preserved : goal.loop-task-preserved
-loop-task-preserved c = λ plan none.
+loop-task-preserved c =
+    let plan = (plain_program c.args.compiled.program.now).plan in
     let code = c.args.compiled.code.now in
     let s = c.args.state.now in
     let n = c.loop-task.task in
     let e = c.in_ok-enabled.enabled in
-    listed_more plan code s n c.loop-task.moves.items _ (enabled_moves n c.clock-clock.result e) (omega arith) c.in_ok-list.ensures (ap (λ k. enabled_moves n k e) c.clock-clock.ensures.value ∙ c.in_ok-enabled.ensures plan none)
-    ∙ c.loop-task.invariant plan none
+    listed_more plan code s n c.loop-task.moves.items _ (enabled_moves n c.clock-clock.result e) (omega arith) c.in_ok-list.ensures (ap (λ k. enabled_moves n k e) c.clock-clock.ensures.value ∙ c.in_ok-enabled.ensures)
+    ∙ c.loop-task.invariant
 
 pub returns : goal.returns
 returns c =
@@ -30,10 +33,11 @@ returns c =
     let items = c.loop-task.moves.items in
     sym (append-nil items)
     ∙ ap (λ ms. items ++ ms) (sym (moves_past plan code s c.loop-task.task (omega arith)))
-    ∙ c.loop-task.invariant plan refl
+    ∙ c.loop-task.invariant
     ∙ sym (moves_all plan code s (sym c.may_move.ensures ∙ c.if-not-may_move.false))
 
 pub loop-task-preserved-then-rests : goal.loop-task-preserved-then-rests
-loop-task-preserved-then-rests c = λ plan none.
+loop-task-preserved-then-rests c =
+    let plan = (plain_program c.args.compiled.program.now).plan in
     ap (λ ms. c.loop-task.moves.items ++ ms) (sym (rests_behind plan c.args.compiled.code.now c.loop-task.task c.args.state.now (c.rests.ensures c.if-rests.true) (omega arith)))
-    ∙ c.loop-task.invariant plan none
+    ∙ c.loop-task.invariant

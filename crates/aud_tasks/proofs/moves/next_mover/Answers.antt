@@ -1,24 +1,28 @@
 use Rattle.std.proofs.Common.{◌+◌, ◌++◌, ap, sym, ◌∙◌, arith}
+use Rattle.aud_typed.specs.Ties.View.{plain_program}
 use Rattle.aud_tasks.specs.Moving.{moves_behind, moves_of}
 use Rattle.aud_tasks.proofs.MoveLaws.Moving.{moves_next, moves_past, none_first}
 use Rattle.aud_tasks.proofs.moves.next_mover.Goals as goal
 
 pub returns-then-has_move-clause-some : goal.returns-then-has_move-clause-some
-returns-then-has_move-clause-some c = λ plan none. record {
-  within = omega arith;
-  behind = c.loop-task.invariant plan none;
-  moves = sym (c.has_move.ensures plan none) ∙ c.if-has_move.true;
-}
+returns-then-has_move-clause-some c =
+    let plan = (plain_program c.args.compiled.program.now).plan in record {
+      within = omega arith;
+      behind = c.loop-task.invariant;
+      moves = sym (c.has_move.ensures) ∙ c.if-has_move.true;
+    }
 
 pub loop-task-preserved : goal.loop-task-preserved
-loop-task-preserved c = λ plan none.
-    let code = c.args.code.now in
+loop-task-preserved c =
+    let plan = (plain_program c.args.compiled.program.now).plan in
+    let code = c.args.compiled.code.now in
     let s = c.args.state.now in
     let n = c.loop-task.task in
-    c.loop-task.invariant plan none
+    c.loop-task.invariant
     ∙ moves_next plan code s n (omega arith)
-    ∙ ap (λ ms. ms ++ moves_behind plan code (n + 1) s) (none_first (moves_of plan code n s) (sym (c.has_move.ensures plan none) ∙ c.if-has_move.false))
+    ∙ ap (λ ms. ms ++ moves_behind plan code (n + 1) s) (none_first (moves_of plan code n s) (sym (c.has_move.ensures) ∙ c.if-has_move.false))
 
 pub returns-clause-none : goal.returns-clause-none
-returns-clause-none c = λ plan none.
-    c.loop-task.invariant plan none ∙ moves_past plan c.args.code.now c.args.state.now c.loop-task.task (omega arith)
+returns-clause-none c =
+    let plan = (plain_program c.args.compiled.program.now).plan in
+    c.loop-task.invariant ∙ moves_past plan c.args.compiled.code.now c.args.state.now c.loop-task.task (omega arith)

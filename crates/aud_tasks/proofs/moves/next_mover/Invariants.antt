@@ -1,7 +1,7 @@
-use Rattle.std.proofs.Common.{◌≡◌, []}
-use Rattle.aud_typed.specs.Tree.{Plan}
+use Rattle.std.proofs.Common.{◌≡◌}
+use Rattle.aud_typed.specs.Ties.View.{plain_program}
 use Rattle.aud_tasks.specs.Moving.{moves_behind}
 use Rattle.aud_tasks.proofs.moves.next_mover.Given as goal
 
 abbrev pub invariant-loop-task : goal.invariant-loop-task
-invariant-loop-task l = (plan : Plan) → plan.objects ≡ [] → moves_behind plan l.code l.from l.state ≡ moves_behind plan l.code l.task l.state
+invariant-loop-task l = let plan = (plain_program l.compiled.program.now).plan in moves_behind plan l.compiled.code.now l.from l.state ≡ moves_behind plan l.compiled.code.now l.task l.state

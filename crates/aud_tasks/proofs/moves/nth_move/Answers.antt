@@ -1,4 +1,4 @@
-use Rattle.std.proofs.Common.{◌≡◌, ◌-◌, ◌∷◌, [], Some, refl, ap, sym, slice_get, ◌∙◌, arith}
+use Rattle.std.proofs.Common.{◌≡◌, ◌-◌, ◌∷◌, [], Some, ap, sym, slice_get, ◌∙◌, arith}
 use Rattle.aud_typed.specs.Ties.View.{plain_program}
 use Rattle.aud_meaning.specs.Run.{own_move}
 use Rattle.aud_tasks.specs.Enabled.{enabled_moves}
@@ -17,7 +17,7 @@ returns c =
     let code = c.args.compiled.code.now in
     let s = c.args.state.now in
     sym (ap (λ ms. slice_get ms c.args.index) (moves_all plan code s (sym c.may_move.ensures ∙ c.if-not-may_move.false))
-    ∙ c.loop-task.invariant plan refl
+    ∙ c.loop-task.invariant
     ∙ ap (λ ms. slice_get ms c.loop-task.left) (moves_past plan code s c.loop-task.task (omega arith)))
 
 pub returns-in-Some : goal.returns-in-Some
@@ -29,8 +29,8 @@ returns-in-Some c =
     let e = c.in_ok-enabled.enabled in
     let k = c.clock-clock.result in
     sym (ap (λ ms. slice_get ms c.args.index) (moves_all plan code s (sym c.may_move.ensures ∙ c.if-not-may_move.false))
-    ∙ c.loop-task.invariant plan refl
-    ∙ nth_here plan code s n c.loop-task.left (enabled_moves n k e) c.in-Some.found (omega arith) (ap (λ t. enabled_moves n t e) c.clock-clock.ensures.value ∙ c.in_ok-enabled.ensures plan refl) (sym c.nth.ensures ∙ c.in-Some.is))
+    ∙ c.loop-task.invariant
+    ∙ nth_here plan code s n c.loop-task.left (enabled_moves n k e) c.in-Some.found (omega arith) (ap (λ t. enabled_moves n t e) c.clock-clock.ensures.value ∙ c.in_ok-enabled.ensures) (sym c.nth.ensures ∙ c.in-Some.is))
 
 pub overflow_sub-left : goal.overflow_sub-left
 overflow_sub-left c =
@@ -38,7 +38,8 @@ overflow_sub-left c =
     omega (arith, few, c.count-left.ensures)
 
 pub loop-task-preserved : goal.loop-task-preserved
-loop-task-preserved c = λ plan none.
+loop-task-preserved c =
+    let plan = (plain_program c.args.compiled.program.now).plan in
     let code = c.args.compiled.code.now in
     let s = c.args.state.now in
     let n = c.loop-task.task in
@@ -46,12 +47,13 @@ loop-task-preserved c = λ plan none.
     let k = c.clock-clock.result in
     let is_none = sym c.nth.ensures ∙ c.in_default.is in
     let few = get_none (enabled_moves n k e) c.loop-task.left is_none in
-    c.loop-task.invariant plan none
-    ∙ nth_behind plan code s n c.loop-task.left (c.loop-task.left - c.count-left.result) (enabled_moves n k e) (omega arith) (ap (λ t. enabled_moves n t e) c.clock-clock.ensures.value ∙ c.in_ok-enabled.ensures plan none) is_none (omega (arith, few, c.count-left.ensures))
+    c.loop-task.invariant
+    ∙ nth_behind plan code s n c.loop-task.left (c.loop-task.left - c.count-left.result) (enabled_moves n k e) (omega arith) (ap (λ t. enabled_moves n t e) c.clock-clock.ensures.value ∙ c.in_ok-enabled.ensures) is_none (omega (arith, few, c.count-left.ensures))
 
 pub loop-task-preserved-then-rests : goal.loop-task-preserved-then-rests
-loop-task-preserved-then-rests c = λ plan none.
-    c.loop-task.invariant plan none
+loop-task-preserved-then-rests c =
+    let plan = (plain_program c.args.compiled.program.now).plan in
+    c.loop-task.invariant
     ∙ ap (λ ms. slice_get ms c.loop-task.left) (rests_behind plan c.args.compiled.code.now c.loop-task.task c.args.state.now (c.rests.ensures c.if-rests.true) (omega arith))
 
 pub returns-then-acts_simply : goal.returns-then-acts_simply
@@ -62,6 +64,6 @@ returns-then-acts_simply c =
     let n = c.loop-task.task in
     let first : c.loop-task.left ≡ 0 = omega (arith, c.if-left-eq0.true) in
     sym (ap (λ ms. slice_get ms c.args.index) (moves_all plan code s (sym c.may_move.ensures ∙ c.if-not-may_move.false))
-    ∙ c.loop-task.invariant plan refl
+    ∙ c.loop-task.invariant
     ∙ nth_here plan code s n c.loop-task.left (own_move n ∷ []) c.only_move.result (omega arith) (sym (c.acts_simply.ensures c.if-acts_simply.true plan))
     (ap (slice_get (own_move n ∷ [])) first ∙ ap Some (sym c.only_move.ensures)))

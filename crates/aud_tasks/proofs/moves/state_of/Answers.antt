@@ -24,7 +24,7 @@ returns-in-Some c =
     let s = c.args.state.now in
     let runs = sym c.has_ended.ensures ∙ c.if-has_ended.false in
     let room = sym c.is_cut.ensures ∙ c.if-is_cut.false in
-    let first = some_there (moves_at plan (flat_controls plan code) s) (mover_moves plan code s c.in-Some.field-0 (c.in-Some.ensures.some plan refl) runs room) in
+    let first = some_there (moves_at plan (flat_controls plan code) s) (mover_moves plan code s c.in-Some.field-0 (c.in-Some.ensures.some) runs room) in
     sym (state_more plan code s first.0 runs room first.1)
 
 pub returns-in-Some-soonest : goal.returns-in-Some-soonest
@@ -32,7 +32,7 @@ returns-in-Some-soonest c =
     let plan = (plain_program c.args.compiled.program.now).plan in
     let code = c.args.compiled.code.now in
     let s = c.args.state.now in
-    sym (state_waits plan code s (sym c.has_ended.ensures ∙ c.if-has_ended.false) (sym c.is_cut.ensures ∙ c.if-is_cut.false) (no_mover plan code s (c.in-None.ensures.none plan refl) (sym c.has_ended.ensures ∙ c.if-has_ended.false) (sym c.is_cut.ensures ∙ c.if-is_cut.false))
+    sym (state_waits plan code s (sym c.has_ended.ensures ∙ c.if-has_ended.false) (sym c.is_cut.ensures ∙ c.if-is_cut.false) (no_mover plan code s (c.in-None.ensures.none) (sym c.has_ended.ensures ∙ c.if-has_ended.false) (sym c.is_cut.ensures ∙ c.if-is_cut.false))
     ∙ sym (waiting_law plan code (times plan code s 0))
     ∙ ap waits_for (sym (c.soonest.ensures plan) ∙ c.in-Some-soonest.is))
 
@@ -41,6 +41,6 @@ returns-in-None-soonest c =
     let plan = (plain_program c.args.compiled.program.now).plan in
     let code = c.args.compiled.code.now in
     let s = c.args.state.now in
-    sym (state_waits plan code s (sym c.has_ended.ensures ∙ c.if-has_ended.false) (sym c.is_cut.ensures ∙ c.if-is_cut.false) (no_mover plan code s (c.in-None.ensures.none plan refl) (sym c.has_ended.ensures ∙ c.if-has_ended.false) (sym c.is_cut.ensures ∙ c.if-is_cut.false))
+    sym (state_waits plan code s (sym c.has_ended.ensures ∙ c.if-has_ended.false) (sym c.is_cut.ensures ∙ c.if-is_cut.false) (no_mover plan code s (c.in-None.ensures.none) (sym c.has_ended.ensures ∙ c.if-has_ended.false) (sym c.is_cut.ensures ∙ c.if-is_cut.false))
     ∙ sym (waiting_law plan code (times plan code s 0))
     ∙ ap waits_for (sym (c.soonest.ensures plan) ∙ c.in-None-soonest.is))

@@ -182,7 +182,7 @@ write_entry_call-returns t c =
     let q = part_of (plain_statements s.otherwise.items) in
     let n1 = c.write_call_step.new.self in
     let n2 = c.write_list.new.self in
-    whole_call c.write_list-2.result s.at (plain_call s.task s.entry s.arguments.items s.form) p q c.args.self.now n1 n2 c.write_list-2.new.self _ _ next a refl refl c.in_ok-write_call_step.ensures
+    whole_call c.write_list-2.result s.at (plain_call s.callee s.entry s.arguments.items s.form) p q c.args.self.now n1 n2 c.write_list-2.new.self _ _ next a refl refl c.in_ok-write_call_step.ensures
     (list_read n1 n2 c.deref.result.now s.after.items next a c.deref.ensures.value c.in_ok-write_list.ensures)
     (list_writes c.write_list-2.result n2 c.write_list-2.new.self c.deref-2.result.now s.otherwise.items next a c.deref-2.ensures.value c.write_list-2.ensures)
 

@@ -1,4 +1,6 @@
+use Rattle.aud_typed.specs.Ties.View.{plain_program}
 use Rattle.aud_machine.proofs.Bridges.{runs_shown}
+use Rattle.aud_machine.proofs.Counted.{each_at_most_twice}
 use Rattle.aud_machine.proofs.machine.Machine.slice.Goals as goal
 
 pub returns-clause-runs : goal.returns-clause-runs
@@ -8,7 +10,11 @@ returns-clause-runs c =
     runs_shown inside.program inside.code c.self.invariant.0 inside.limits inside.spent inside.state shown h c.args.n c.run.new.state c.in_ok-ran.ran c.in_ok-ran.ensures.runs)
 
 pub returns-clause-ticks : goal.returns-clause-ticks
-returns-clause-ticks c = rw (← c.self.view_is) c.in_ok-ran.ensures.runs.few
+returns-clause-ticks c =
+    let inside = c.self.inside in
+    let plan = (plain_program inside.program).plan in
+    let ran = c.in_ok-ran.ran in
+    rw (← c.self.view_is) (each_at_most_twice plan inside.code ran.steps ran.ticks c.self.invariant.1 c.in_ok-ran.ensures.runs.few)
 
 pub invariant_of-self-2 : goal.invariant_of-self-2
-invariant_of-self-2 c = (c.self.invariant.0, λ alive. c.in_ok-ran.ensures.spots, λ alive one. c.in_ok-ran.ensures.runs.kept (c.self.invariant.2 c.if-self.false one))
+invariant_of-self-2 c = (c.self.invariant.0, c.self.invariant.1, λ alive. c.in_ok-ran.ensures.spots, λ alive one. c.in_ok-ran.ensures.runs.kept (c.self.invariant.3 c.if-self.false one))

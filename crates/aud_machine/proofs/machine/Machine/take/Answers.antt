@@ -28,7 +28,7 @@ pub returns-clause-ticks : goal.returns-clause-ticks
 returns-clause-ticks c =
     let inside = c.self.inside in
     let plan = (plain_program inside.program).plan in
-    rw (← c.self.view_is) (few_taken plan inside.code inside.limits (slice_get (moves_at plan (flat_controls plan inside.code) inside.state) c.args.nth) inside.state c.take.new.state c.in_ok-taken.taken c.in_ok-taken.ensures.takes)
+    rw (← c.self.view_is) (few_taken plan inside.code inside.limits (slice_get (moves_at plan (flat_controls plan inside.code) inside.state) c.args.nth) inside.state c.take.new.state c.in_ok-taken.taken c.self.invariant.1 c.in_ok-taken.ensures.takes)
 
 pub invariant_of-self-2 : goal.invariant_of-self-2
 invariant_of-self-2 c =
@@ -43,6 +43,6 @@ invariant_of-self-2 c =
           let new = w.forget_if_due.new.state in
           let told = w.in_ok-forget_if_due.ensures in
           let forgets : Forgets taken mid new = forgot taken mid new (sym c.is_some.ensures ∙ w.if-is_some.true) told.left told.others in
-          rw w.self-inside-is (c.self.invariant.0, λ alive. spots_stay inside.code taken mid new forgets done.spots, λ alive one. within_taken plan inside.code inside.limits move inside.state mid new taken done.takes forgets (c.self.invariant.2 c.if-self.false one))
-      | else-is_some w ↦ rw w.self-inside-is (c.self.invariant.0, λ alive. done.spots, λ alive one. within_taken plan inside.code inside.limits move inside.state mid mid taken done.takes (nothing_forgot taken mid) (c.self.invariant.2 c.if-self.false one))
+          rw w.self-inside-is (c.self.invariant.0, c.self.invariant.1, λ alive. spots_stay inside.code taken mid new forgets done.spots, λ alive one. within_taken plan inside.code inside.limits move inside.state mid new taken done.takes forgets (c.self.invariant.3 c.if-self.false one))
+      | else-is_some w ↦ rw w.self-inside-is (c.self.invariant.0, c.self.invariant.1, λ alive. done.spots, λ alive one. within_taken plan inside.code inside.limits move inside.state mid mid taken done.takes (nothing_forgot taken mid) (c.self.invariant.3 c.if-self.false one))
     ]

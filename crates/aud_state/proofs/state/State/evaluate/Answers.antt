@@ -17,10 +17,10 @@ pub returns-clause-ends : goal.returns-clause-ends
 returns-clause-ends c =
     let i = c.self.inside in
     IfOk-weaker c.evaluate.result _ _ (λ e h.
-    ends i.tasks.items i.progress i.calls i.objects.items c.args.n c.index-found.result.now c.args.self.now (within_all i.tasks.items i.progress i.calls i.objects.items c.args.n c.args.self.now c.self.view_is c.requires.within) c.index-found.ensures c.self.view_is c.standing-place.result.place (c.standing-place.ensures i.progress).place c.args.code.now c.clock.result c.evaluate.new.operands e.outcome c.deref.result.now c.display-display.result.now c.frames-frames.result.now
+    ends i.tasks.items i.progress i.calls i.objects.items c.args.n c.index-found.result.now c.args.self.now (within_all i.tasks.items i.progress i.calls i.objects.items c.args.n c.args.self.now c.self.view_is c.requires.within) c.index-found.ensures c.self.view_is c.standing-place.result.place (c.standing-place.ensures i.progress).place c.args.code.now c.clock.result c.objects.result c.evaluate.new.operands e.outcome c.deref.result.now c.display-display.result.now c.frames-frames.result.now
     c.deref.ensures.value
     (c.display-display.ensures ∙ ap (λ (s : Stack). s.display) c.stack.ensures)
-    (c.frames-frames.ensures ∙ ap (λ (s : Stored). s.frames) c.store.ensures) (sym c.clock.ensures.value) h)
+    (c.frames-frames.ensures ∙ ap (λ (s : Stored). s.frames) c.store.ensures) (sym c.clock.ensures.value) (sym c.objects.ensures) h)
     c.evaluate.ensures.ends
 
 pub returns-clause-reaches : goal.returns-clause-reaches

@@ -10,5 +10,5 @@ use Rattle.aud_state.proofs.task.Task.put_served.Goals as goal
 pub returns : goal.returns
 returns c = λ id.
     let opened = (plain_task c.args.self.now).own.opened in
-    around_more id c.args.served.now.items c.deref.result.now c.extend_from_slice.new.self.items (served_in opened) c.in_ok-extend_from_slice.ensures.items (c.deref.ensures.value ∙ (rw c.stack.ensures at c.in_ok-accepted.ensures.served))
+    around_more id c.args.served.now.items c.deref.result.now c.extend_from_slice.new.self.items (served_in opened) c.in_ok-extend_from_slice.ensures.items (c.deref.ensures.value ∙ (rw c.stack.ensures at c.in_ok-own.ensures))
     ∙ ap (λ b. contains id c.args.served.now.items || b) (serves_same id opened)

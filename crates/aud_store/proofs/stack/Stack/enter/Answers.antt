@@ -1,8 +1,8 @@
-use Rattle.std.proofs.Common.{◌≡◌, ◌∷◌, [], ◌++◌, ◌∙◌, None, reverse, ap, sym, subst}
+use Rattle.std.proofs.Common.{◌≡◌, ◌∷◌, [], ◌++◌, ◌∙◌, None, refl, reverse, ap, sym, subst}
 use Rattle.aud_store.specs.declared.stack.Open.{Open}
 use Rattle.aud_store.specs.Ties.Display.{Display, seen, placed, stands}
-use Rattle.aud_store.specs.Ties.Stored.{plain_opened, kept_of, ArePlaced}
-use Rattle.aud_store.proofs.Opened.{given_up, room_again, opened_more, placed_more, stack_of}
+use Rattle.aud_store.specs.Ties.Stored.{plain_opened, kept_by, kept_of, ArePlaced}
+use Rattle.aud_store.proofs.Opened.{among, given_up, room_again, opened_more, placed_more, stack_of}
 use Rattle.aud_store.proofs.stack.Stack.enter.Goals as goal
 use Rattle.aud_store.proofs.stack.Stack.enter.Goals.{After-enter, After-leave}
 
@@ -39,19 +39,19 @@ invariant_of-self-2 c =
     let o : Open = record { frame = c.args.frame; region = c.args.region; elaborated = c.args.elaborated; handling = None; at = c.args.at; purpose = c.args.purpose; replaced = c.in_ok-replaced.replaced } in
     let old = c.self.inside.display in
     let kept = kept_so (goal.at.invariant_of-self-2 c).After-enter in
-    placed_more old c.enter.new.self c.self.inside.opened.items c.push.new.self.items o c.self.invariant
+    placed_more old c.enter.new.self c.self.inside.opened.items c.push.new.self.items o (kept_by c.args.purpose (seen old)) c.self.invariant
     (c.in_ok-push.ensures.items ∙ ap (λ os. os ++ o ∷ []) c.in_ok-reserve.ensures.items)
-    (c.in_ok-replaced.ensures.entered ∙ ap (λ k. placed k c.args.frame old) kept)
-    (c.in_ok-replaced.ensures.replaced ∙ ap (λ k. stands k old) kept)
+    (among (c.in_ok-replaced.ensures.entered ∙ ap (λ k. placed k c.args.frame old) kept)
+    (c.in_ok-replaced.ensures.replaced ∙ ap (λ k. stands k old) kept) refl)
 
 pub returns-clause-entered : goal.returns-clause-entered
 returns-clause-entered c = rw (← c.self.view_is) (
     let o : Open = record { frame = c.args.frame; region = c.args.region; elaborated = c.args.elaborated; handling = None; at = c.args.at; purpose = c.args.purpose; replaced = c.in_ok-replaced.replaced } in
     let old = c.self.inside.display in
     let kept = kept_so (goal.at.returns-clause-entered c).After-enter in
-    opened_more old c.enter.new.self c.self.inside.opened.items c.push.new.self.items o c.self.inside.backs.items c.args.backs.now c.extend_from_slice.new.self.items
+    opened_more old c.enter.new.self c.self.inside.opened.items c.push.new.self.items o (kept_by c.args.purpose (seen old)) c.self.inside.backs.items c.args.backs.now c.extend_from_slice.new.self.items
     c.self.invariant
     (c.in_ok-push.ensures.items ∙ ap (λ os. os ++ o ∷ []) c.in_ok-reserve.ensures.items)
-    (c.in_ok-replaced.ensures.entered ∙ ap (λ k. placed k c.args.frame old) kept)
-    (c.in_ok-replaced.ensures.replaced ∙ ap (λ k. stands k old) kept)
+    (among (c.in_ok-replaced.ensures.entered ∙ ap (λ k. placed k c.args.frame old) kept)
+    (c.in_ok-replaced.ensures.replaced ∙ ap (λ k. stands k old) kept) refl)
     c.in_default.ensures.items c.requires.copies)

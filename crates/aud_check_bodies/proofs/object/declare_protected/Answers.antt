@@ -1,0 +1,46 @@
+use Rattle.std.specs.Prelude.{List, ◌∷◌, [], ◌++◌, map, OnOk}
+use Rattle.std.proofs.Common.{◌≡◌, ap, subst, ◌∙◌}
+use Rattle.aud_syntax.specs.Ties.View.{plain_operation, plain_private}
+use Rattle.aud_typed.specs.Tree.{declare_object}
+use Rattle.aud_typed.specs.Ties.View.{plain_statements as plain_typed_statements}
+use Rattle.aud_names.specs.Names.{Place}
+use Rattle.aud_names.specs.Rules.{declared_once, right_name_at_end}
+use Rattle.aud_names.specs.Ties.Regions.{plain_region, plain_place}
+use Rattle.aud_check_bodies.specs.declared.declaration.DeclarativePart.{DeclarativePart}
+use Rattle.aud_check_bodies.specs.Objects.{ObjectDeclared, parts_faults, with_object_parts, with_object}
+use Rattle.aud_check_bodies.specs.Tables.{Tables, next_object, object_kept}
+use Rattle.aud_check_bodies.specs.Ties.Objects.{plain_parts}
+use Rattle.aud_check_bodies.specs.Ties.Tables.{plain_tables}
+use Rattle.aud_typing.proofs.Notes.{noted_then}
+use Rattle.aud_check_bodies.proofs.Declared.{declares_object}
+use Rattle.aud_check_bodies.proofs.object.declare_protected.Goals as goal
+
+pub returns : goal.returns
+returns c =
+    let node = c.args.node.now in
+    let i = node.name in
+    let first = c.args.part.now in
+    let outer = c.args.outer.now in
+    let place : Place = plain_place first.region outer in
+    let t : Tables = plain_tables c.args.tables.now in
+    let operations = map plain_operation node.operations.items in
+    let hidden = plain_private node.private_items in
+    let old = c.args.faults.now in
+    let f1 = c.declared_once-once.new.faults in
+    let f2 = c.parts_of.new.faults in
+    let new = c.right_name_at_end.new.faults in
+    let number = c.next_object-number.result in
+    let around = c.in_ok-parts.around in
+    let x : ObjectDeclared = plain_parts c.in_ok-parts.parts around c.parts_of.new.tables in
+    let once = declared_once i.name i.at first.region.symbols.entries in
+    let within = parts_faults i.name operations hidden place t in
+    let ends = right_name_at_end i.name node.end_name in
+    let noted_all = noted_then old f1 new once (within ++ ends) c.declared_once-once.ensures.noted (noted_then f1 f2 new within ends c.in_ok-parts.ensures.noted c.right_name_at_end.ensures) in
+    let region : plain_region c.name_parts.new.region ≡ with_object_parts x.around.parts (with_object i (next_object t) (plain_region first.region)) =
+    c.in_ok-name_parts.ensures ∙ ap (with_object_parts around.parts.items) (c.in_ok-name_object.ensures ∙ ap (λ n. with_object i n (plain_region first.region)) c.next_object-number.ensures) in
+    let next : DeclarativePart = record { region = c.name_parts.new.region; elaborations = c.elaborate_object.new.elaborations } in
+    let elaborated : plain_typed_statements next.elaborations.items ≡ plain_typed_statements first.elaborations.items ++ declare_object node.at (next_object t) x.values ∷ [] =
+    c.in_ok-elaborate_object.ensures ∙ ap (λ n. plain_typed_statements first.elaborations.items ++ declare_object node.at n x.values ∷ []) c.next_object-number.ensures in
+    let end = plain_tables c.keep_object.new.self in
+    let kept : OnOk c.keep_object.result (end ≡ object_kept i.name x.entries x.tables) = subst (λ l. OnOk c.keep_object.result (end ≡ object_kept l x.entries x.tables)) c.in_ok-name.ensures c.keep_object.ensures in
+    declares_object c.keep_object.result old new outer first next t end node.at i operations hidden node.end_name x c.in_ok-parts.ensures.declared noted_all region elaborated kept

@@ -1,0 +1,18 @@
+use Rattle.std.proofs.Common.{◌≡◌, ◌++◌, ◌∷◌, [], Bool, false, None, if◌then◌else◌, ap, sym, ◌∙◌, rules}
+use Rattle.std.specs.Str.{bytes_eq}
+use Rattle.indexmap.proofs.CallerLemmas.{insert_entry-new}
+use Rattle.aud_names.specs.declared.names.Meaning.TheVariants.{Barred}
+use Rattle.aud_names.specs.Names.{Region, named_in, is_declared}
+use Rattle.aud_names.specs.Ties.Regions.{plain_region}
+use Rattle.aud_names.proofs.objects.add_barred.Goals as goal
+
+pub returns : goal.returns
+returns c =
+    let name = c.args.name.now in
+    let r : Region = plain_region c.args.region.now in
+    let more : Region = record r { symbols = r.symbols ++ (name, Barred) ∷ [] } in
+    let known : is_declared name r.symbols ≡ false = search rules in
+    let none : named_in name r.symbols ≡ None = search rules in
+    let last = insert_entry-new bytes_eq c.args.region.now.symbols name Barred none in
+    let grown : c.insert.new.self.entries ≡ r.symbols ++ (name, Barred) ∷ [] = search rules in
+    ap (λ l. record r { symbols = l }) grown ∙ sym (ap (λ (b : Bool). if b then r else more) known)

@@ -1,0 +1,14 @@
+use Rattle.std.proofs.Common.{ap, ◌∙◌}
+use Rattle.aud_meaning.specs.Configuration.{Own}
+use Rattle.aud_meaning.proofs.Part.{closes}
+use Rattle.aud_sequential.specs.Parked.{Parked}
+use Rattle.aud_state.specs.View.{plain_own, plain_task}
+use Rattle.aud_state.proofs.task.Task.go_back.Goals as goal
+
+pub returns : goal.returns
+returns c =
+    let t = c.args.self.now in
+    let back = c.args.resumed in
+    ap (λ (p : Parked). plain_task (record t { parked = p; status = back.status })) c.set_pending.ensures
+    ∙ ap (λ (p : Parked). plain_task (record t { parked = record p { pending = back.pending }; status = back.status })) c.close.ensures
+    ∙ ap (λ (o : Own). record (plain_task t) { own = record o { status = back.status; pending = back.pending } }) (closes (plain_own t) t.parked.pending t.parked.stack)
