@@ -3,7 +3,7 @@
 # alone, and whether all files of sessions are looked at. With a folder it writes all of them there, one after the other and a QUIT, as `stdin`, and what is answered as `stdout`.
 set -eu
 cd "$(dirname "$0")/../examples"
-sessions="first loop array recursion tasks steps rendezvous select buffer barrier"
+sessions="first loop array recursion tasks steps rendezvous select buffer barrier abort evens watch"
 answers() { for name in $sessions; do cat "$name.stdout"; done; }
 if [ $# = 1 ]; then
     { cat $sessions && echo QUIT; } > "$1/stdin"

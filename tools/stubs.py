@@ -14,8 +14,8 @@ How to read what it prints:
 - `not proved`, `no proof`, or that F depends on a hole in `Rattle.CRATE`: F is open. `not proved; it calls G` names what is to be mended first.
 - a goal in a file under FOLDER (`has-holes` of a `_spec`, goal `?`) is the hole of a stub: pass over it. `holes=N` and the status count such holes too.
 
-It has two limits. A file of lemmas that no named function cites is not checked. Stubs of some impls of traits, as `impl From`, print one error line each,
-which does no harm.
+It has two limits. A file of lemmas that no named function cites is not checked. Stubs of some impls of traits print one error line each, which does no
+harm where the checked functions do not call them.
 """
 import hashlib
 import re
@@ -148,8 +148,8 @@ class Source:
         else:
             name = name_of(words)
             home = self.homes.get(name, inside)
-        # (what is dropped keeps its code and its proof)
-        if not name.endswith("Drop") and not self.is_tested(attributes):
+        # (what is dropped or converted keeps its code and its proof)
+        if not name.endswith(("Drop", "From")) and not self.is_tested(attributes):
             self.items(opens + 1, last, home + [name])
         return last + 1
 

@@ -17,10 +17,11 @@ class Writer:
     and entries, with the names of the task or protected object, or the array of tasks, and the modes of their formals; accept, an entry
     of the task itself with its formals, where it may be accepted; count, where its Count may stand, and own in a protected body."""
 
-    def __init__(self, seed, with_tasks, with_objects=False):
+    def __init__(self, seed, with_tasks, with_objects=False, with_aborts=False):
         self.by = random.Random(seed)
         self.with_tasks = with_tasks
         self.with_objects = with_objects
+        self.with_aborts = with_aborts
         self.count = 0
         self.size = 0
 
@@ -192,7 +193,30 @@ class Writer:
             called += self.tasking(inner, 1, False, False)
         if self.with_objects:
             called = ["begin"] + called + self.operation_calls(inner, variable) + ["exception", "when others => null;", "end;"]
+        if self.with_aborts and self.often(0.3):
+            called.append(self.abort(inner))
         return lines + called + ["end loop;", f"end {name};"]
+
+    def killer(self, seen):
+        """A task that aborts others, sooner or later."""
+        name, lines = self.fresh("T"), []
+        for _ in range(self.pick(1, 1, 2, 3)):
+            delay = self.delay(self.without(seen, "variable"))
+            waits = self.pick([], [delay], [delay] + ["null;"] * self.pick(1, 2, 4), ["null;"] * self.pick(2, 5, 10, 20))
+            lines += waits + [self.abort(seen + [("task", name)] * self.often(0.1))]
+        return [f"task {name};", f"task body {name} is", "begin"] + lines + [f"end {name};"]
+
+    def nest(self, seen):
+        """A task in whose block others are declared; there, and behind it, it waits or accepts a call."""
+        name, inner, entry = self.fresh("T"), self.without(seen, "label", "accept", "count"), self.fresh("N")
+        lines = [f"task {name} is", f"entry {entry};", f"end {name};", f"task body {name} is", "begin", "declare"]
+        inner += [("task", name)]
+        for _ in range(self.pick(1, 2)):
+            lines += self.pick(self.client, self.killer)(inner) if self.often(0.6) else self.single_tasks(inner, 1)
+        waits = [self.delay(inner)], [f"accept {entry};"], [f"accept {entry} do", self.delay(inner), f"end {entry};"], ["null;"]
+        lines += ["begin"] + self.pick(*waits) + ["end;"] + self.pick(*waits) + [f"end {name};"]
+        seen += [("task", name), ("entry", (name, entry, ()))]
+        return lines
 
     def operation_calls(self, seen, variable):
         of_objects = [it for it in seen if it[0] != "procedure" or "." in it[1][0]]
@@ -378,6 +402,8 @@ class Writer:
         kind = self.by.random()
         if self.with_objects and self.often(0.15) and (call := self.function_call(seen)):
             return [call]
+        if self.with_aborts and self.often(0.05):
+            return [self.delay(seen)] * self.often(0.7) + [self.abort(seen)]
         if self.with_tasks and self.often(0.4 if self.named(seen, "entry", "entries") else 0.05):
             return self.tasking(seen, depth, returns, handling)
         if kind < 0.63 or depth <= 0:
@@ -453,6 +479,13 @@ class Writer:
         arguments = self.arguments(seen, modes, self.named(seen, "variable"))
         return None if arguments is None else f"{task}{self.index(seen) if kind == 'entries' else ''}.{entry}{arguments};"
 
+    def abort(self, seen):
+        tasks = [(kind, name) for kind, name in seen if kind in ("task", "tasks")]
+        if not tasks:
+            return "null;"
+        named = [self.pick(*tasks) for _ in range(self.pick(1, 1, 1, 1, 2, 3))]
+        return f"abort {', '.join(name + (self.index(seen) if kind == 'tasks' else '') for kind, name in named)};"
+
     def accept(self, seen, accept, depth, handling):
         entry, formals, text = accept
         head = f"accept {entry}{text}"
@@ -527,7 +560,11 @@ class Writer:
         tasks = self.single_tasks(seen, 3) + self.client(seen) + self.client(seen) if self.with_tasks and self.often(0.7) else []
         for _ in range(self.pick(0, 1, 2, 3) if self.with_objects else 0):
             tasks += self.client(seen)
-        lines = ["procedure M is"] + objects + tasks + self.part(seen, 3) + self.part(seen, 3) + self.body(seen, 3, True, " M")
+        parts = self.nest(seen) if self.with_aborts and self.often(0.7) else self.part(seen, 3) + self.part(seen, 3)
+        lines = ["procedure M is"] + objects + tasks + parts
+        for _ in range(self.pick(1, 1, 2, 3) if self.with_aborts else 0):
+            lines += self.killer(seen)
+        lines += self.body(seen, 3, True, " M")
         return "".join("\n" if it == " " and self.often(0.03) else it for it in "\n".join(lines)).split("\n")
 
 
@@ -553,9 +590,18 @@ def look(by):
     return by.choice(["MOVES", "MOVES", "TASKS", "TASKS", "QUEUES", "CLOCK"])
 
 
-def requests(by, with_tasks):
+def interleaved(by):
+    """Short runs by many choices, with time that goes on, and what is shown behind each."""
+    lines = ["CHOOSE " + " ".join(str(by.randrange(12)) for _ in range(400)), f"RUN {by.randrange(1, 100)}"]
+    for _ in range(by.choice([20, 40, 80])):
+        lines += [f"ADVANCE {by.choice([1, 250, 1_000])}"] * (by.random() < 0.2)
+        lines += [f"RUN {by.choice([1, 1, 2, 3, 5])}", by.choice(["TASKS", "TASKS", "TASKS", "MOVES", "MOVES", "QUEUES"])]
+    return lines
+
+
+def requests(by, with_tasks, with_aborts):
     """Steps and runs in pieces, choices, and what is shown between them; then the program to its end."""
-    lines = []
+    lines = interleaved(by) + ["RESET"] * by.randrange(2) if with_aborts else []
     for _ in range(by.randrange(30)):
         lines += waits(by) if with_tasks and by.random() < 0.15 else [deed(by, with_tasks)]
         lines += [look(by) for _ in range(by.randrange(4))]
@@ -587,14 +633,14 @@ def load(program):
     return [f"LOAD {len(program)}"] + program
 
 
-def session(seed, with_tasks, with_objects=False):
+def session(seed, with_tasks, with_objects=False, with_aborts=False):
     """The lines that are sent."""
-    program = Writer(seed, with_tasks, with_objects).program()
+    program = Writer(seed, with_tasks, with_objects, with_aborts).program()
     while len(program) > LINES or any(len(line) > 1_000 for line in program):
         seed += 1_000_003
-        program = Writer(seed, with_tasks, with_objects).program()
+        program = Writer(seed, with_tasks, with_objects, with_aborts).program()
     by = random.Random(seed)
-    lines = load(program) + requests(by, with_tasks)
+    lines = load(program) + requests(by, with_tasks, with_aborts)
     for number in range(3 * BROKEN if with_objects else BROKEN):
         lines += load(broken(program, by) if number < BROKEN else misplaced(program, by)) + ["RUN 100", "TASKS"]
     return lines + ["QUIT"]

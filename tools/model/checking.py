@@ -3,8 +3,8 @@ from dataclasses import dataclass, field, replace
 from itertools import groupby
 
 from trees import (
-    Accept, Arrays, Assign, Attribute, Block, Call, Delay, Exceptions, Exit, If, Loop, Name, Number, Objects, Offer, Procedure, Protected,
-    ProtectedBody, Raise, Return, Select, String, Task, TaskBody, Unary,
+    Abort, Accept, Arrays, Assign, Attribute, Block, Call, Delay, Exceptions, Exit, If, Loop, Name, Number, Objects, Offer, Procedure,
+    Protected, ProtectedBody, Raise, Return, Select, String, Task, TaskBody, Unary,
 )
 
 TYPES = {"INTEGER": "number", "NATURAL": "number", "POSITIVE": "number", "BOOLEAN": "truth"}
@@ -322,6 +322,9 @@ class Check:
     def tasking(self, statement, within):
         if isinstance(statement, Delay):
             self.delay(statement, within)
+        elif isinstance(statement, Abort):
+            for name in statement.names:
+                self.aborted(name, within)
         elif isinstance(statement, Accept):
             self.accept(statement, within)
         elif isinstance(statement, Select):
@@ -367,6 +370,11 @@ class Check:
         if delay.seconds:
             self.has_type(delay.seconds, "number", within)
 
+    def aborted(self, name, within):
+        known = self.resolved(name, within)
+        if known and self.has_index(known, name, within):
+            self.is_task(known, name)
+
     def accept(self, accept, within):
         known = self.visible(accept.name, within)
         region = Region(within.region)
@@ -394,7 +402,7 @@ class Check:
         known = self.resolved(name, within)
         if not known:
             return
-        if known.kind in ("array", "tasks") and name.arguments and not self.element(known, name, within):
+        if not self.has_index(known, name, within):
             return
         if known.kind not in ("procedure", "put", "entry"):
             self.fault(44 if known.kind == "function" else 32, name.name.place)
@@ -443,14 +451,16 @@ class Check:
         if before.name == "ADA" and not within.region.nearest("ADA"):
             return self.of_library(name)
         known = self.visible(before.name, within)
-        if not known or known.kind in ("array", "tasks") and before.arguments and not self.element(known, before, within):
+        if not known or not self.has_index(known, before, within):
             return None
         if known.kind == "object" and not before.arguments:
             return self.of_object(known, name, within)
-        if known.kind != ("tasks" if before.arguments else "task"):
-            self.fault(44 if known.kind == "function" else 32, before.name.place)
-            return None
-        return self.of_task(known, name)
+        return self.of_task(known, name) if self.is_task(known, before) else None
+
+    def is_task(self, known, name):
+        is_right = known.kind == ("tasks" if name.arguments else "task")
+        self.unless(is_right, 44 if known.kind == "function" else 32, name.name.place)
+        return is_right
 
     def of_library(self, name):
         library, unit, *behind = [*name.prefix, name]
@@ -484,6 +494,10 @@ class Check:
         is_hidden = not named or named.kind == "variable" and known.unit not in within.bodies
         self.fault(30 if is_hidden else 44 if named.kind == "function" else 32, behind.name.place)
         return None
+
+    def has_index(self, known, name, within):
+        """Whether its index is right, where it is an element."""
+        return known.kind not in ("array", "tasks") or not name.arguments or self.element(known, name, within)
 
     def element(self, known, name, within):
         """Whether its index is right."""

@@ -7,19 +7,22 @@ def status(machine, task):
         return task.status
     if task.serving:
         return "ready"
-    return "master" if machine.is_held(task) else "object" if task.next.waits_for_object(task) else "ready"
+    step = machine.due(task)
+    return "master" if machine.is_held(step) else "object" if step.waits_for_object(task) else "ready"
 
 
-def line(task):
+def line(machine, task):
     if task.status == "created":
         return task.task_type.body.line
-    if task.is_callable:
-        return task.next.line
-    return task.task_type.body.body.end
+    return task.task_type.body.body.end if task.is_over else machine.due(task).line
 
 
 def tasks(machine):
-    return [f"{number} {task.name} {status(machine, task)} {line(task)}" for number, task in enumerate(machine.tasks, 1)]
+    lines = []
+    for number, task in enumerate(machine.tasks, 1):
+        abnormal = " abnormal" if task.is_abnormal else ""
+        lines.append(f"{number} {task.name} {status(machine, task)}{abnormal} {line(machine, task)}")
+    return lines
 
 
 def queues(machine):
@@ -39,7 +42,7 @@ def moves(machine):
     lines = []
     for number, move in enumerate(machine.moves()):
         alternative = f" {move.alternative}" if move.alternative else ""
-        lines.append(f"{number} {numbers[id(move.task)]} {move.task.name} {line(move.task)} {move.kind}{alternative}")
+        lines.append(f"{number} {numbers[id(move.task)]} {move.task.name} {line(machine, move.task)} {move.kind}{alternative}")
     return lines
 
 

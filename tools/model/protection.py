@@ -57,7 +57,7 @@ class Protection:
         if is_entry and self.is_acting(task) or not is_inside and task in protected.actions:
             raise program_error()
         self.may_enter(task)
-        call = EntryCall(task, formals, copies, protected.queues.get(operation.name), target)
+        call = EntryCall(task, formals, copies, protected.queues.get(operation.name), target, protected, statement.line)
         if is_inside:
             yield from self.run_body(task, Frame("procedure"), protected.bodies[operation.name], call, statement.line)
         elif is_entry:

@@ -1,13 +1,13 @@
 """Reads a program of the language, or tells the place at which it is none."""
 from tokens import Fault, Token, tokens, word
 from trees import (
-    Accept, Alternative, Arrays, Assign, Attribute, Binary, Block, Body, Call, Delay, Entry, Exceptions, Exit, Formal, If, Loop, Name,
-    Null, Number, Objects, Offer, Operation, Procedure, Protected, ProtectedBody, Raise, Range, Return, Select, String, Task, TaskBody,
-    Terminate, Unary,
+    Abort, Accept, Alternative, Arrays, Assign, Attribute, Binary, Block, Body, Call, Delay, Entry, Exceptions, Exit, Formal, If, Loop,
+    Name, Null, Number, Objects, Offer, Operation, Procedure, Protected, ProtectedBody, Raise, Range, Return, Select, String, Task,
+    TaskBody, Terminate, Unary,
 )
 
 LEVELS = 200
-STATEMENTS = "null if accept delay select while for loop declare begin exit return raise".split()
+STATEMENTS = "null if abort accept delay select while for loop declare begin exit return raise".split()
 
 
 class Reader:
@@ -327,8 +327,16 @@ class Reader:
             return Raise(self.name_if())
         if self.has("delay"):
             return self.duration()
+        if self.has("abort"):
+            return self.abort()
         name = self.name()
         return Assign(name, self.expression()) if self.has(":=") else Call(name)
+
+    def abort(self):
+        names = [self.name()]
+        while self.has(","):
+            names.append(self.name())
+        return Abort(names)
 
     def accept(self):
         self.take("accept")

@@ -188,10 +188,12 @@ class Scope:
 
 @dataclass(eq=False)
 class Frame:
-    """Of a body, block, procedure, loop, accept, operation or entry; its variables so far, each with its name."""
+    """Of a body, block, procedure, loop, accept, operation or entry; its variables so far, each with its name; the call that an accept
+    has taken."""
 
     kind: str
     variables: list = field(default_factory=list)
+    call: "EntryCall" = None
 
     @property
     def is_master(self):
@@ -222,14 +224,17 @@ class Waits:
 
 @dataclass(eq=False)
 class EntryCall:
-    """Also of another operation. Its formals by their names, the variables that some are copied back to, the queue of its entry, and
-    where a function's value goes. It is over, or cancelled, or neither; an exception may have ended it."""
+    """Also of another operation. Its formals by their names, the variables that some are copied back to, the queue of its entry, where a
+    function's value goes, the protected object, if it is of one, and the line of its statement. It is over, or cancelled, or neither; an
+    exception may have ended it."""
 
     caller: "Running"
     formals: dict
     copies: list
     queue: list
     target: object = None
+    object: ProtectedObject = None
+    line: int = None
     is_over: bool = False
     is_cancelled: bool = False
     exception: AdaException = None
@@ -239,7 +244,8 @@ class EntryCall:
 class Running:
     """A task: its open frames, the masters that it depends on, the declarative part that created it, who waits for its activation and
     whether an activation that it waits for has failed; its steps and the next one; what it waits for where it is blocked; the calls
-    queued on its entries, oldest first; its own call; how many bodies of entries it is serving."""
+    queued on its entries, oldest first; its own call; how many bodies of entries it is serving; whether it is aborted, and its call of a
+    protected entry that was cancelled by this, as long as it has not withdrawn it."""
 
     name: str
     status: str
@@ -256,6 +262,8 @@ class Running:
     queues: dict = field(default_factory=dict)
     call: EntryCall = None
     serving: int = 0
+    is_aborted: bool = False
+    withdraws: EntryCall = None
 
     def __post_init__(self):
         self.queues = {entry.name: [] for entry in self.task_type.entries}
@@ -269,8 +277,16 @@ class Running:
         return self.status == "terminated"
 
     @property
+    def is_over(self):
+        return self.status in ("completed", "terminated")
+
+    @property
+    def is_abnormal(self):
+        return self.is_aborted and not self.is_over
+
+    @property
     def is_callable(self):
-        return self.status not in ("completed", "terminated")
+        return not self.is_over and not self.is_aborted
 
 
 @dataclass

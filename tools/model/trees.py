@@ -197,6 +197,11 @@ class Accept(Placed):
 
 
 @dataclass
+class Abort(Placed):
+    names: list
+
+
+@dataclass
 class Delay(Placed):
     """So many milliseconds, or the seconds that an expression tells."""
 

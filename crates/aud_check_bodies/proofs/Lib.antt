@@ -16,5 +16,6 @@ pub mod Functions
 pub mod Scoping
 pub mod Called
 pub mod Passing
+pub mod Aborting
 pub mod Kept
 pub mod Rendezvous

@@ -12,6 +12,7 @@ pub mod Entries
 pub mod Units
 pub mod Objects
 pub mod Single
+pub mod Aborts
 pub mod Statements
 pub mod Programs
 pub use Rattle.aud_check_bodies.proofs.Scoping.Programs.{typed_scoped}

@@ -6,6 +6,7 @@ pub mod Arguments
 pub mod Calls
 pub mod Values
 pub mod Delays
+pub mod Aborts
 pub mod Accepts
 pub mod Selects
 pub mod Labels

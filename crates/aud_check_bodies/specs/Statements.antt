@@ -27,6 +27,7 @@ use Rattle.aud_check_bodies.specs.Tasks.{checked_task, with_bodies, task_awaited
 use Rattle.aud_check_bodies.specs.Regions.{loop_region, in_loop, shown_names}
 use Rattle.aud_check_bodies.specs.Values.{assign_faults, typed_assign}
 use Rattle.aud_check_bodies.specs.Calls.{call_faults, typed_call, entry_call_of, selected_call_faults, selected_call}
+use Rattle.aud_check_bodies.specs.Aborts.{abort_faults, typed_abort}
 use Rattle.aud_check_bodies.specs.Delays.{delay_at, delay_faults, typed_delay}
 use Rattle.aud_check_bodies.specs.Accepts.{accept_formals, accept_faults, accepted, number_of, with_accepted, TypedAccept}
 use Rattle.aud_check_bodies.specs.Selects.{TypedAlternative, accepts, delays, terminates, alternatives_of, form_faults, form_of}
@@ -250,8 +251,8 @@ abbrev mutual
   checked_statement (select_call at n behind otherwise) around place t =
       after (form_faults otherwise place ++ selected_call_faults n place t) (and_then (checked_others behind around place t) (λ xs t1. and_then (checked_otherwise otherwise around place t1) (λ rest t2.
       fine (entry_call_of at (form_of otherwise place) (tree.part_of xs) (tree.part_of rest) (selected_call n place t)) t2)))
+  checked_statement (abort at x xs) around place t = after (abort_faults x xs place) (fine (typed_abort at x xs place) t)
   -- no program has these yet
-  checked_statement (abort at x xs) around place t = fine (tree.null nowhere) t
   checked_statement (requeue at x with_abort) around place t = fine (tree.null nowhere) t
 
   -- RM 9.5.2

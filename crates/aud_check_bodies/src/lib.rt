@@ -1,6 +1,7 @@
 // Declarations, statements and bodies: their faults, and what is left of a program.
 #![tactic(auto)]
 
+mod abort;
 mod accept;
 mod argument;
 mod assignment;

@@ -18,6 +18,7 @@ ghost use Rattle.aud_check_bodies.specs.Ties.Tables.{plain_tables};
 ghost use Rattle.aud_typing.specs.Ties.Typing.{in_box};
 ghost use Rattle.aud_check_bodies.specs.Ties.Within.{around_of, around_entering, Checks, ChecksStatement};
 
+use crate::abort::abort;
 use crate::accept::accept_head;
 use crate::accept::number_of;
 use crate::accept::with_accepted;
@@ -166,6 +167,7 @@ fn statement<'a>(
         Statement::Delay(source) => delay_statement(source, scope, faults),
         Statement::Select(node) => select(node, within, tables, faults),
         Statement::SelectCall(node) => selected_call(node, within, tables, faults),
+        Statement::Abort(source) => abort(source, scope, faults),
     }
 }
 

@@ -115,7 +115,8 @@ fn body_of(among: &Among, alternative: usize) -> Option<usize>
         | Among::Call { .. }
         | Among::CallObject { .. }
         | Among::Operation { .. }
-        | Among::Delay => None,
+        | Among::Delay
+        | Among::Abort => None,
     }
 }
 
@@ -134,7 +135,8 @@ fn beside(among: &Among, part: usize) -> Option<usize>
         | Among::Activated
         | Among::Operation { .. }
         | Among::Delay
-        | Among::Accept { .. } => None,
+        | Among::Accept { .. }
+        | Among::Abort => None,
     }
 }
 

@@ -232,7 +232,8 @@ fn need_of_among(among: &Among) -> Counts
         | Among::Operation { .. }
         | Among::Delay
         | Among::Accept { .. }
-        | Among::Select { .. } => NOTHING,
+        | Among::Select { .. }
+        | Among::Abort => NOTHING,
     }
 }
 

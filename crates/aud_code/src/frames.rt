@@ -123,7 +123,8 @@ fn among_fits(lines: &[Line], place: usize, within: Option<usize>, among: &Among
         | Among::Activate
         | Among::Activated
         | Among::Operation { .. }
-        | Among::Delay => true,
+        | Among::Delay
+        | Among::Abort => true,
     }
 }
 

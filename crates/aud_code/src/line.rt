@@ -132,6 +132,8 @@ pub enum Among {
         own: usize,
         offers: Vec<Offer>,
     },
+    /// The tasks that are named, and those that depend on them, become abnormal (RM 9.8).
+    Abort,
 }
 
 /// How a step ends.

@@ -221,7 +221,11 @@ fn among_sees(code: &Code, among: &Among, frames: usize) -> bool
         Among::Select { own, offers, .. } => {
             doing_sees(seen, frames, *own) && offers_see(seen, frames, offers)
         }
-        Among::DeclareObject(_) | Among::Activate | Among::Activated | Among::Delay => true,
+        Among::DeclareObject(_)
+        | Among::Activate
+        | Among::Activated
+        | Among::Delay
+        | Among::Abort => true,
     }
 }
 

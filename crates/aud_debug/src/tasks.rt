@@ -1,6 +1,6 @@
 // Tasks.
 
-ghost use Rattle.std.specs.Prelude.{◌≡◌, ◌<◌, ℕ, Bool, Result, IfOk, length};
+ghost use Rattle.std.specs.Prelude.{◌≡◌, ℕ, Bool, Result, IfOk};
 ghost use Rattle.aud_text.specs.declared.raise.Raise.{Raise as RaiseOf};
 ghost use Rattle.aud_text.specs.Ties.Adds.{Adds};
 ghost use Rattle.aud_typed.specs.Tree.{Plan};
@@ -56,7 +56,6 @@ fn push_line(
     compiled: Compiled<'_>,
     task: usize,
 ) -> Result<(), AllocError>
-    requires { task < length state.now.tasks }
     ensures { let plan = (plain_program compiled.entry.program.now).plan in
         Adds result out.old out.new (task_line plan compiled.entry.code.now task state.now) }
 {
@@ -74,7 +73,6 @@ fn push_status(
     compiled: Compiled<'_>,
     task: usize,
 ) -> Result<(), AllocError>
-    requires { task < length state.now.tasks }
     ensures { let plan = (plain_program compiled.entry.program.now).plan in
         Adds result out.old out.new (status_words plan compiled.entry.code.now task state.now) }
 {

@@ -1,4 +1,4 @@
--- Programs of the whole language, most of which no source text says yet.
+-- Programs of the whole language, as typed programs.
 use Rattle.std.specs.Prelude.{List, [], ◌∷◌}
 use Rattle.aud_examples.specs.Asking.{Row, AllHold}
 use Rattle.aud_examples.specs.Programs.NullProgram.{row as null_program}

@@ -1,11 +1,12 @@
--- The code of calls, of objects that are declared, and of barriers in memory.
+-- The code of calls, of tasks that are named, of objects that are declared, and of barriers in memory.
 use Rattle.std.proofs.Common.{◌≡◌, ℕ, ◌+◌, ◌<◌, List, [], ◌∷◌, ◌++◌, length, drop, get_or, map, Option, Some, None, refl, ap, sym, subst, ◌∙◌, arith, append_assoc, length-append}
 use Rattle.std.proofs.lemmas.List.{map-append}
 use Rattle.aud_typed.specs.declared.program.Entry.{Entry}
 use Rattle.aud_typed.specs.declared.program.EntryBody.{EntryBody}
 use Rattle.aud_typed.specs.declared.program.Unit as declared
+use Rattle.aud_typed.specs.declared.program.TaskName.{TaskName}
 use Rattle.aud_typed.specs.declared.program.ValueExpression.{ValueExpression}
-use Rattle.aud_typed.specs.Ties.View.{entry_with, plain_value, plain_values}
+use Rattle.aud_typed.specs.Ties.View.{entry_with, plain_task, plain_task_names, plain_value, plain_values}
 use Rattle.aud_typed.specs.Tree as tree
 use Rattle.aud_code.specs.declared.line.Barrier.{Barrier}
 use Rattle.aud_code.specs.Instruction.{Instruction, Component, Mark, Name, If}
@@ -14,16 +15,29 @@ use Rattle.aud_code.specs.Frames.{found_from, found, Found}
 use Rattle.aud_code.specs.Sound.{Counts, TakesTruth}
 use Rattle.aud_code.specs.Tabled.{table_of, IsTabled, IsDecided, AllDecided}
 use Rattle.aud_code.specs.View.{frames_in, plain_barrier}
-use Rattle.aud_layout.specs.Instructions.{call_code, called_code, components_code, condition_code, task_code, value_code}
+use Rattle.aud_layout.specs.Instructions.{call_code, called_code, components_code, condition_code, names_code, task_code, value_code}
 use Rattle.aud_layout.proofs.Flat.Tabling.{condition_tabled}
 use Rattle.aud_gen.specs.Opening.{frames_before}
-use Rattle.aud_gen.specs.Writes.{barrier_in, barriers_in, callee_code, component_code}
+use Rattle.aud_gen.specs.Writes.{barrier_in, barriers_in, callee_code, component_code, name_code}
 use Rattle.aud_gen.proofs.Loops.{dropped}
 
 -- Whose entry is called, and what the call brings.
 pub call_split : (c : tree.Callee) (arguments : List tree.Argument) (form : tree.CallForm) → call_code c arguments form ≡ callee_code c ++ called_code arguments form
 call_split (tree.of_task t) arguments form = sym (append_assoc (task_code t) (Name ∷ Mark ∷ []) (called_code arguments form))
 call_split (tree.of_object v) arguments form = refl
+
+-- The name of a task, and those behind it.
+pub next_name : (xs : List TaskName) (i : ℕ) (x : TaskName) → i < length xs → x ≡ get_or xs i x → names_code (plain_task_names (drop i xs)) ≡ name_code (plain_task x) ++ names_code (plain_task_names (drop (i + 1) xs))
+next_name xs i x h e =
+    ap (λ ys. names_code (plain_task_names ys)) (dropped xs i x h e)
+    ∙ sym (append_assoc (task_code (plain_task x)) (Name ∷ []) (names_code (plain_task_names (drop (i + 1) xs))))
+
+pub next_name_length : (xs : List TaskName) (i : ℕ) (x : TaskName) → i < length xs → x ≡ get_or xs i x → length (names_code (plain_task_names (drop i xs))) ≡ length (task_code (plain_task x)) + 1 + length (names_code (plain_task_names (drop (i + 1) xs)))
+next_name_length xs i x h e =
+    let rest = names_code (plain_task_names (drop (i + 1) xs)) in
+    let all = ap length (next_name xs i x h e) ∙ length-append (name_code (plain_task x)) rest in
+    let own = length-append (task_code (plain_task x)) (Name ∷ []) in
+    omega (arith, all, own)
 
 -- A component, and those behind it.
 pub next_component : (xs : List ValueExpression) (i : ℕ) (x : ValueExpression) → i < length xs → x ≡ get_or xs i x → components_code (plain_values (drop i xs)) ≡ component_code (plain_value x) ++ components_code (plain_values (drop (i + 1) xs))

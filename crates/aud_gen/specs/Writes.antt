@@ -128,6 +128,10 @@ abbrev pub callee_code : tree.Callee → List Instruction
 callee_code (tree.of_task t) = task_code t ++ (Name ∷ Mark ∷ [])
 callee_code (tree.of_object v) = []
 
+-- one task that is named
+abbrev pub name_code : tree.TaskName → List Instruction
+name_code t = task_code t ++ Name ∷ []
+
 -- one component of an object that is declared
 abbrev pub component_code : tree.ValueExpression → List Instruction
 component_code e = value_code e ++ Component ∷ []

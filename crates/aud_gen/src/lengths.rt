@@ -4,12 +4,12 @@ ghost use Rattle.std.specs.Prelude.{◌≡◌, ◌+◌, ◌^◌, ◌-◌, ◌<�
 ghost use Rattle.aud_typed.specs.Tree.{part_of};
 ghost use Rattle.aud_typed.specs.Ties.View.{alternatives_in, doing_in, entry_call_in, select_in, plain_delay, plain_form};
 ghost use Rattle.aud_typed.specs.Ties.View.{plain_argument, plain_arguments, plain_callee, plain_calling, plain_into, plain_values};
-ghost use Rattle.aud_typed.specs.Ties.View.{plain_integer, plain_task, plain_boolean, plain_value, plain_reference, plain_text, plain_statement, plain_statements, statements_in, if_in, for_in, handlers_in, elaborations_in, body_in, block_in};
+ghost use Rattle.aud_typed.specs.Ties.View.{plain_integer, plain_task, plain_task_names, plain_boolean, plain_value, plain_reference, plain_text, plain_statement, plain_statements, statements_in, if_in, for_in, handlers_in, elaborations_in, body_in, block_in};
 ghost use Rattle.aud_typed.specs.declared.program.Subtype.{Subtype};
 ghost use Rattle.aud_layout.specs.Instructions.{argument_code, arguments_code, copied_code};
 ghost use Rattle.aud_layout.specs.Instructions.{delay_code, form_code, guards_code, delays_code, instructions_of};
 ghost use Rattle.aud_layout.specs.Instructions.{called_code, components_code, entered_code, into_code};
-ghost use Rattle.aud_layout.specs.Instructions.{integer_code, task_code, condition_code, value_code, reference_code, text_code};
+ghost use Rattle.aud_layout.specs.Instructions.{integer_code, task_code, names_code, condition_code, value_code, reference_code, text_code};
 ghost use Rattle.aud_layout.specs.Layout.{statement_size_by, part_size_by, handlers_size_by, body_size_by, end_place_by, doing_size_by, offered_size_by};
 ghost use Rattle.aud_layout.specs.Written.{flat_step};
 ghost use Rattle.aud_gen.specs.Writes.{alone, alternative_size, arm_length, callee_code, choice_code, counted};
@@ -53,6 +53,17 @@ fn task_length(t: &TaskName) -> usize
         TaskName::Single(_) => 1,
         TaskName::Element(_, index) => integer_length(index).saturating_add(1),
     }
+}
+
+// Of the names of tasks.
+fn names_length(tasks: &[TaskName]) -> usize
+    ensures { result ≡ counted (length (names_code (plain_task_names tasks.now))) }
+{
+    let mut total: usize = 0;
+    for task in tasks {
+        total = total.saturating_add(task_length(task)).saturating_add(1);
+    }
+    total
 }
 
 /// Of an expression of type Boolean.
@@ -353,6 +364,7 @@ pub fn statement_length(s: &Statement, ways: usize) -> Result<usize, AllocError>
         Statement::Delay(_, e) => exact(delay_length(e).saturating_add(1)),
         Statement::Accept(accept) => sum(doing_length(&accept.doing)?, 1),
         Statement::Select(select) => select_length(select, ways),
+        Statement::Abort(_, tasks) => exact(names_length(tasks).saturating_add(1)),
     }
 }
 

@@ -1,14 +1,14 @@
-// The instructions of calls of procedures and functions, of objects that are declared, and of barriers.
+// The instructions of calls of procedures and functions, of tasks that are named, of objects that are declared, and of barriers.
 
 ghost use Rattle.std.specs.Prelude.{◌≡◌, ◌∷◌, length, map, IfOk};
-ghost use Rattle.aud_typed.specs.Ties.View.{plain_arguments, plain_callee, plain_calling, plain_form, plain_into, plain_value, plain_values};
+ghost use Rattle.aud_typed.specs.Ties.View.{plain_arguments, plain_callee, plain_calling, plain_form, plain_into, plain_task, plain_task_names, plain_value, plain_values};
 ghost use Rattle.aud_code.specs.Flat.{instructs};
 ghost use Rattle.aud_code.specs.Instruction.{BeginObject};
 ghost use Rattle.aud_code.specs.Tabled.{AllDecided, IsDecided};
 ghost use Rattle.aud_code.specs.View.{frames_in, plain_barrier};
-ghost use Rattle.aud_layout.specs.Instructions.{called_code, components_code, condition_code, entered_code, into_code};
+ghost use Rattle.aud_layout.specs.Instructions.{called_code, components_code, condition_code, entered_code, into_code, names_code};
 ghost use Rattle.aud_gen.specs.Opening.{frames_before};
-ghost use Rattle.aud_gen.specs.Writes.{barrier_in, barriers_in, callee_code, component_code, Writes};
+ghost use Rattle.aud_gen.specs.Writes.{barrier_in, barriers_in, callee_code, component_code, name_code, Writes};
 
 use crate::operands::operands;
 use crate::writer::{Writer, Written};
@@ -16,7 +16,8 @@ use aud_code::instruction::Instruction;
 use aud_code::line::{Barrier, Ending};
 use aud_text::place::Pos;
 use aud_typed::program::{
-    Argument, CallForm, Callee, Calling, Entry, EntryBody, Reference, Unit, ValueExpression,
+    Argument, CallForm, Callee, Calling, Entry, EntryBody, Reference, TaskName, Unit,
+    ValueExpression,
 };
 use std::alloc::{AllocError, Global};
 
@@ -64,6 +65,25 @@ impl Writer {
             }
             Callee::Object(_) => Ok(()),
         }
+    }
+
+    /// The names of tasks.
+    pub fn write_names(&mut self, tasks: &[TaskName]) -> Written
+        ensures { Writes result self.old self.new
+            (map instructs (names_code (plain_task_names tasks.now))) }
+    {
+        for task in tasks {
+            self.write_name(task)?;
+        }
+        Ok(())
+    }
+
+    fn write_name(&mut self, task: &TaskName) -> Written
+        ensures { Writes result self.old self.new
+            (map instructs (name_code (plain_task task.now))) }
+    {
+        self.write_task(task)?;
+        self.instruct(Instruction::Name)
     }
 
     /// The initial values of an object's components.

@@ -134,6 +134,10 @@ impl Writer {
             }
             Statement::Accept(accept) => self.write_accept_statement(accept, ways, out, next),
             Statement::Select(select) => self.write_select(select, ways, out, next),
+            Statement::Abort(at, tasks) => {
+                self.write_names(tasks)?;
+                self.concern(Among::Abort, next, *at, out, ways.within)
+            }
         }
     }
 

@@ -3,7 +3,7 @@ use Rattle.std.proofs.Common.{refl}
 use Rattle.aud_grammar.specs.Why.LaterRows.{TreesOfLater, FaultsOfLater}
 
 pub trees_of_later : TreesOfLater
-trees_of_later = (refl, refl, refl, refl)
+trees_of_later = (refl, refl)
 
 pub faults_of_later : FaultsOfLater
-faults_of_later = (refl, refl, refl, refl, refl, refl, refl)
+faults_of_later = (refl, refl, refl, refl)

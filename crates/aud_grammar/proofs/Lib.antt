@@ -31,4 +31,5 @@ pub mod ProcedureRows
 pub mod TaskRows
 pub mod RendezvousRows
 pub mod ProtectedRows
+pub mod AbortRows
 pub mod LaterRows

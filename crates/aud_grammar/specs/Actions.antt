@@ -606,8 +606,7 @@ protected_declared at (a_protected i operations hidden end) = m.protected at i o
 protected_declared at (a_protected_body i bodies end) = m.protected_body at i bodies end
 protected_declared at _ = no_declaration
 
--- what is not let in yet
-
+-- further tasks to be aborted (RM 9.8(2))
 abbrev pub the_names : Item → m.Names
 the_names (cons x xs) = m.more_names (the_name x) (the_names xs)
 the_names _ = m.no_names

@@ -32,8 +32,9 @@ pub data Phrase : Type 0 where
   Protected ProtectedRest ProtectedDeclaration PrivatePart PrivateItem PrivateOperation Components : Phrase
   Operation EntryOperation ProcedureOperation FunctionOperation : Phrase
   ProtectedBody OperationBody EntryBody ProcedureBody FunctionBody : Phrase
+  Abort MoreNames : Phrase
   -- no choice leads to these yet
-  Abort MoreNames Requeue WithAbort : Phrase
+  Requeue WithAbort : Phrase
 
 -- the identifiers that the grammar names (RM A.10.1, 9.6)
 pub data Word : Type 0 where
@@ -113,7 +114,7 @@ rule MoreChoices = T kind.Bar ∷ N Identifier ∷ []
 -- statements lie one level deeper (RM 5.1)
 rule Statements = L StatementList ∷ Down ∷ []
 rule StatementList = N Statement ∷ Rep Statement ∷ []
-rule Statement = A (NullStatement ∷ NameStatement ∷ If ∷ Loop ∷ Block ∷ Exit ∷ Return ∷ Raise ∷ AcceptStatement ∷ DelayStatement ∷ Select ∷ []) ∷ []
+rule Statement = A (NullStatement ∷ NameStatement ∷ If ∷ Loop ∷ Block ∷ Exit ∷ Return ∷ Raise ∷ AcceptStatement ∷ DelayStatement ∷ Select ∷ Abort ∷ []) ∷ []
 rule NullStatement = P kind.Null ∷ T kind.Semicolon ∷ []
 -- a loop or a block behind its name, an assignment or a call (RM 5.5, 5.6, 5.2, 6.4)
 rule NameStatement = N Identifier ∷ N NameRest ∷ []
@@ -275,10 +276,10 @@ rule OperationBody = A (EntryBody ∷ ProcedureBody ∷ FunctionBody ∷ []) ∷
 rule EntryBody = P kind.Entry ∷ N Identifier ∷ Opt Formals ∷ T kind.When ∷ N Expression ∷ T kind.Is ∷ Opt Declarations ∷ N Body ∷ []
 rule ProcedureBody = P kind.Procedure ∷ N Identifier ∷ Opt Formals ∷ T kind.Is ∷ Opt Declarations ∷ N Body ∷ []
 rule FunctionBody = P kind.Function ∷ N Identifier ∷ Opt Formals ∷ T kind.Return ∷ N Identifier ∷ T kind.Is ∷ Opt Declarations ∷ N Body ∷ []
--- What follows is not let in. A statement may then be Abort or Requeue.
 -- RM 9.8
 rule Abort = P kind.Abort ∷ N Name ∷ Rep MoreNames ∷ T kind.Semicolon ∷ []
 rule MoreNames = T kind.Comma ∷ N Name ∷ []
+-- What follows is not let in. A statement may then be Requeue.
 -- RM 9.5.4
 rule Requeue = P kind.Requeue ∷ N Name ∷ Opt WithAbort ∷ T kind.Semicolon ∷ []
 rule WithAbort = T kind.With ∷ T kind.Abort ∷ []

@@ -1,3 +1,4 @@
+pub mod AbortRows
 pub mod Alike
 pub mod Begun
 pub mod ControlRows

@@ -7,6 +7,7 @@ ghost use Rattle.aud_grammar.specs.Why.ProcedureRows as procedures;
 ghost use Rattle.aud_grammar.specs.Why.TaskRows as tasks;
 ghost use Rattle.aud_grammar.specs.Why.RendezvousRows as rendezvous;
 ghost use Rattle.aud_grammar.specs.Why.ProtectedRows as protected;
+ghost use Rattle.aud_grammar.specs.Why.AbortRows as aborts;
 ghost use Rattle.aud_grammar.specs.Why.LaterRows as later;
 
 /// The tree that is read is the tree that the tokens spell.
@@ -149,8 +150,22 @@ pub fn levels_of_protected()
     ensures { protected.LevelsOfProtected }
 {}
 
-/// The trees of small texts that are not let in yet, each as its phrase: abort and requeue
-/// statements.
+/// The trees of small texts with abort statements.
+pub fn trees_of_abort()
+    ensures { aborts.TreesOfAbort }
+{}
+
+/// The token at which such texts go wrong.
+pub fn faults_of_abort()
+    ensures { aborts.FaultsOfAbort }
+{}
+
+/// The token at which such texts open a level too many.
+pub fn levels_of_abort()
+    ensures { aborts.LevelsOfAbort }
+{}
+
+/// The trees of small texts that are not let in yet, each as its phrase: requeue statements.
 pub fn trees_of_later()
     ensures { later.TreesOfLater }
 {}

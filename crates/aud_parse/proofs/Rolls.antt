@@ -32,13 +32,13 @@ use Rattle.aud_syntax.specs.declared.tree.Choices.{Choices}
 use Rattle.aud_syntax.specs.declared.tree.Handler.{Handler}
 use Rattle.aud_syntax.specs.declared.tree.Context.{Context}
 use Rattle.aud_syntax.specs.Plain as m
-use Rattle.aud_syntax.specs.Ties.View.{plain_name, plain_simple, plain_expression, plain_maybe, plain_formal, plain_entry, plain_definition, plain_declaration, plain_declarations, plain_others, plain_statements, plain_statement, plain_context, plain_body, plain_done, plain_accept, plain_expressions, arm_list, plain_iteration, plain_choices, handler_list}
+use Rattle.aud_syntax.specs.Ties.View.{plain_name, plain_names, plain_simple, plain_expression, plain_maybe, plain_formal, plain_entry, plain_definition, plain_declaration, plain_declarations, plain_others, plain_statements, plain_statement, plain_context, plain_body, plain_done, plain_accept, plain_expressions, arm_list, plain_iteration, plain_choices, handler_list}
 use Rattle.aud_grammar.specs.Grammar as g
 use Rattle.aud_grammar.specs.Grammar.{Symbol}
-use Rattle.aud_grammar.specs.Actions.{Item, made, place, an_ident, some_names, some_statements, a_body, a_unit, the_declarations, more_statements, opt_ident, opt_expression, a_statement, the_args, the_parts, a_variable, the_contexts, an_arm, the_arms, otherwise, the_iteration, loop_place, is_there, number_of, a_bound, an_iteration, a_declare, begin_of, the_handlers, the_formals, a_definition, a_task, opt_definition, a_declaration, an_entry, the_entries, an_accept, a_doing, the_body, top, pop}
+use Rattle.aud_grammar.specs.Actions.{Item, made, place, an_ident, some_names, some_statements, a_body, a_unit, the_declarations, more_statements, opt_ident, opt_expression, a_statement, the_args, the_parts, a_variable, the_contexts, an_arm, the_arms, otherwise, the_iteration, loop_place, is_there, number_of, a_bound, an_iteration, a_declare, begin_of, the_handlers, the_formals, a_definition, a_task, opt_definition, a_declaration, an_entry, the_entries, an_accept, a_doing, the_body, the_names, top, pop}
 use Rattle.aud_cursor.specs.Ties.Items.{list_item, opt_item, boxed_item, mode_item, context_item, choices_item}
-use Rattle.aud_parse_expr.specs.Ties.Items.{simple_item, expression_item, args_item, part_item}
-use Rattle.aud_parse.specs.Ties.Items.{names_item, formal_item, entry_item, definition_item, doing_item, done_item, boxed_accept_item, task_item, declaration_item, boxed_declaration_item, statement_item, statements_item, body_item, boxed_body_item, unit_item, rest_item, variable_item, boxed_statement_item, boxed_statements_item, arm_item, boxed_arm_item, scheme_item, bound_item, declare_item, handler_item, boxed_handler_item}
+use Rattle.aud_parse_expr.specs.Ties.Items.{simple_item, expression_item, args_item, part_item, name_item}
+use Rattle.aud_parse.specs.Ties.Items.{names_item, task_name_item, formal_item, entry_item, definition_item, doing_item, done_item, boxed_accept_item, task_item, declaration_item, boxed_declaration_item, statement_item, statements_item, body_item, boxed_body_item, unit_item, rest_item, variable_item, boxed_statement_item, boxed_statements_item, arm_item, boxed_arm_item, scheme_item, bound_item, declare_item, handler_item, boxed_handler_item}
 use Rattle.aud_cursor.specs.Ties.Parts.{mark_item}
 use Rattle.aud_cursor.specs.Ties.Reads.{Completing, Completes}
 use Rattle.aud_cursor.specs.declared.cursor.Rest.{Rest}
@@ -263,6 +263,19 @@ pub accept_items : (b : Box AcceptStatement Global) (begin : Item) (p : Ident ×
     plain_accept b.value ≡ m.accept (place begin) p.0 (map plain_formal p.1.items) (plain_done x) →
     made g.Accept (begin ∷ an_ident p.0 ∷ list_item formal_item p.1.items ∷ doing_item x ∷ ds) ≡ boxed_accept_item b ∷ ds
 accept_items b begin p x ds h = ap (λ z. an_accept (m.accept (place begin) p.0 z (plain_done x)) ∷ ds) (formals_are p.1.items) ∙ ap (λ z. an_accept z ∷ ds) (sym h)
+
+-- abort statements
+
+names_are : (xs : List Name) → the_names (list_item task_name_item xs) ≡ plain_names xs
+names_are [] = refl
+names_are (x ∷ xs) = ap (λ z. m.more_names (plain_name x) z) (names_are xs)
+
+pub abort_items : (b : Box Statement Global) (begin : Item) (first : Box Name Global) (v : Vec Name Global) (ds : List Item) →
+    plain_statement b.value ≡ m.abort (place begin) (plain_name first.value) (plain_names v.items) →
+    made g.Abort (begin ∷ name_item first ∷ list_item task_name_item v.items ∷ ds) ≡ boxed_statement_item b ∷ ds
+abort_items b begin first v ds h =
+    ap (λ z. a_statement (m.abort (place begin) (plain_name first.value) z) ∷ ds) (names_are v.items)
+    ∙ ap (λ z. a_statement z ∷ ds) (sym h)
 
 -- tasks
 

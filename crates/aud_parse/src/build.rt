@@ -5,15 +5,15 @@
 
 ghost use Rattle.std.specs.Prelude.{◌≡◌, ◌++◌, ◌∷◌, [], map, IfOk, Some};
 ghost use Rattle.aud_syntax.specs.Plain as m;
-ghost use Rattle.aud_syntax.specs.Ties.View.{plain_name, plain_expression, plain_statement, plain_statements, plain_others, plain_iteration, arm_list, plain_choices, handler_list, plain_body, plain_done, plain_accept, plain_formal, plain_declaration, plain_declarations};
+ghost use Rattle.aud_syntax.specs.Ties.View.{plain_name, plain_expression, plain_statement, plain_statements, plain_others, plain_iteration, arm_list, plain_choices, handler_list, plain_body, plain_done, plain_accept, plain_formal, plain_declaration, plain_declarations, plain_names};
 ghost use Rattle.aud_grammar.specs.Actions.{begin_of};
 ghost use Rattle.aud_parse.specs.Ties.Parts.{assigned_or_called, else_statements, iteration_of, begins_at, declared_in, is_declared, declares_at};
 
 use crate::scheme::Scheme;
 use aud_syntax::tree::{
-    AcceptStatement, Arm, BlockStatement, Body, Choices, Declaration, Expression, Formal, Handler,
-    Ident, IfStatement, Iteration, LoopStatement, Name, ProcedureDeclaration, Statement,
-    Statements, TaskBody,
+    AbortStatement, AcceptStatement, Arm, BlockStatement, Body, Choices, Declaration, Expression,
+    Formal, Handler, Ident, IfStatement, Iteration, LoopStatement, Name, ProcedureDeclaration,
+    Statement, Statements, TaskBody,
 };
 use aud_text::place::Pos;
 use std::alloc::{AllocError, Global};
@@ -82,6 +82,23 @@ pub fn assign_or_call(
         return Ok(Box::new(alloc, Statement::Call(name))?);
     };
     Ok(Box::new(alloc, Statement::Assign(name, value))?)
+}
+
+/// An abort statement (RM 9.8).
+#[inline(never)]
+pub fn made_abort(
+    alloc: Global,
+    at: Pos,
+    first: Box<Name>,
+    others: Vec<Name>,
+) -> Result<Box<Statement>, AllocError>
+    ensures { IfOk result (λ b. plain_statement b.value ≡
+        m.abort at (plain_name first.value) (plain_names others.items)) }
+{
+    let first = Box::into_inner(first);
+    let statement = Box::new(alloc, AbortStatement { at, first, others })?;
+    let boxed = Box::new(alloc, Statement::Abort(statement))?;
+    Ok(boxed)
 }
 
 /// The statements of an else part, of which there are none where it is missing.

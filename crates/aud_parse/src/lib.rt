@@ -1,6 +1,7 @@
 // The parser: declarations, statements and programs.
 #![tactic(auto)]
 
+mod abort;
 mod build;
 mod build_protected;
 mod build_select;

@@ -18,6 +18,7 @@ ghost use Rattle.aud_parse.specs.Ties.Alternatives.{alternative_of, remaining, f
 ghost use Rattle.aud_parse.specs.Ties.Parts.{behind_label};
 ghost use Rattle.aud_cursor.specs.Ties.Reads.{Reads, MayRead, ReadsFlat, MayReadFlat, Completes, ReadsAll};
 
+use crate::abort::abort;
 use crate::build::{
     Branch, Declare, add, arm_of, assign_or_call, handler_of, in_order, made_accept, made_block,
     made_body, made_if, made_loop, made_procedure, made_task_body,
@@ -55,7 +56,7 @@ const DECLARATIONS: [Kind; 4] = [
     Kind::Protected,
 ];
 
-const STATEMENTS: [Kind; 14] = [
+const STATEMENTS: [Kind; 15] = [
     Kind::Null,
     Kind::Identifier,
     Kind::If,
@@ -70,6 +71,7 @@ const STATEMENTS: [Kind; 14] = [
     Kind::Accept,
     Kind::Delay,
     Kind::Select,
+    Kind::Abort,
 ];
 
 const LOOPS: [Kind; 3] = [Kind::While, Kind::For, Kind::Loop];
@@ -801,7 +803,10 @@ fn statement(alloc: Global, start: Rest, room: u32) -> Read<Box<Statement>>
     if is(start, Kind::Delay) {
         return delay_statement(alloc, start, room);
     }
-    select(alloc, start, room)
+    if is(start, Kind::Select) {
+        return select(alloc, start, room);
+    }
+    abort(alloc, start, room)
 }
 
 /// The further statements.

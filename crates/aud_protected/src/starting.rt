@@ -1,10 +1,11 @@
 // Calls of the entries, procedures and functions of objects (RM 9.5.1, 9.5.3).
 
-ghost use Rattle.std.specs.Prelude.{◌≡◌, ◌+◌, ◌≤◌, ℕ, Bool, false, None, Result, Ok, OnOk, IfOk};
+ghost use Rattle.std.specs.Prelude.{◌≡◌, ◌+◌, ◌≤◌, ℕ, Bool, false, not, None, Result, Ok, OnOk, IfOk};
 ghost use Rattle.aud_text.specs.declared.raise.Raise.{Raise as RaiseOf};
 ghost use Rattle.aud_typed.specs.Tree.{Plan};
 ghost use Rattle.aud_meaning.specs.Evaluation.{Sight};
 ghost use Rattle.aud_meaning.specs.Orders.{Orders};
+ghost use Rattle.aud_meaning.specs.Parts.{in_the_way, object_of};
 ghost use Rattle.aud_meaning.specs.Tasks as effect;
 ghost use Rattle.aud_code.specs.Control.{going};
 ghost use Rattle.aud_code.specs.Places.{Spot};
@@ -191,6 +192,13 @@ pub fn start<B: Barriers>(
     )?;
     state.begin_action(n, object, is_function)?;
     Ok(())
+}
+
+/// Whether a call of an object may begin: no action of another task is in its way; functions may run together (RM 9.5.1(4 to 6)).
+pub fn may_begin(state: &State, task: usize, is_function: bool, object: usize) -> bool
+    ensures { result ≡ not (in_the_way task is_function (object_of object state.now)) }
+{
+    !state.is_in_the_way(task, is_function, object)
 }
 
 // What the frame of a procedure or function of an object is opened for.

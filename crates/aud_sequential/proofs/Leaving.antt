@@ -47,6 +47,7 @@ leaving plan (Concerns (among.Call entry form otherwise) next) s x = refl
 leaving plan (Concerns (among.CallObject v entry form otherwise) next) s x = refl
 leaving plan (Concerns (among.Operation v unit) next) s x = refl
 leaving plan (Concerns among.Delay next) s x = refl
+leaving plan (Concerns among.Abort next) s x = refl
 leaving plan (Concerns (among.Accept entry region body) next) s x = refl
 leaving plan (Concerns (among.Select has_else own offers) next) s x = refl
 leaving plan (Continues f behind inside) s x = refl

@@ -49,6 +49,7 @@ among_kind (among.Operation v unit) = kind.Start
 among_kind among.Delay = kind.Delay
 among_kind (among.Accept entry region body) = kind.Accept
 among_kind (among.Select has_else own offers) = kind.Select
+among_kind among.Abort = kind.Abort
 
 -- the kind of a step, by how it ends, with that of the step which leaves the innermost construct
 abbrev pub step_kind : Last → StepKind → StepKind

@@ -30,6 +30,7 @@ fn among_kind(among: &Among) -> StepKind
         Among::Delay => StepKind::Delay,
         Among::Accept { .. } => StepKind::Accept,
         Among::Select { .. } => StepKind::Select,
+        Among::Abort => StepKind::Abort,
     }
 }
 

@@ -1,3 +1,4 @@
+pub mod Found
 pub mod GivenBack
 pub mod InLine
 pub mod Lines

@@ -1,4 +1,5 @@
 pub mod CallLaws
 pub mod Giving
+pub mod Hitting
 pub mod Numbered
 pub mod TaskLaws

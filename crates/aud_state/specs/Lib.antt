@@ -1,3 +1,4 @@
+pub mod Aborting
 pub mod View
 pub mod Fast
 pub mod Opening

@@ -1,7 +1,7 @@
 -- Queues of entries.
 use Rattle.std.specs.Prelude.{◌≡◌, ◌<◌, ℕ, zero, suc, List, [], ◌∷◌, map, filter, Option, Some, None, Bool, true, false, ◌&&◌, not, nat_eq, if◌then◌else◌}
 use Rattle.aud_meaning.specs.Configuration.{Call}
-use Rattle.aud_meaning.specs.Parts.{Waiting, is_queued, owner_number, queue}
+use Rattle.aud_meaning.specs.Parts.{Waiting, is_queued, numbers, owner_number, queue}
 use Rattle.aud_state.specs.declared.queues.Queue.{Queue}
 use Rattle.aud_state.specs.declared.queues.Queues.{Queues}
 
@@ -13,6 +13,10 @@ oldest (w ∷ ws) = Some w.call
 -- it is queued on this entry of this owner
 abbrev pub is_at : ℕ → ℕ → Call → Bool
 is_at owner entry c = is_queued c.state && nat_eq c.entry entry && nat_eq (owner_number c.owner) owner
+
+-- those that a task has made and that are queued
+abbrev pub calls_by : ℕ → List Call → List ℕ
+calls_by caller calls = numbers (λ (c : Call). is_queued c.state && nat_eq c.caller caller) 0 calls
 
 -- it is the queue of this entry
 abbrev pub is_of : ℕ → ℕ → Queue → Bool

@@ -1,9 +1,9 @@
 // Entry calls (RM 9.5.3).
 
 ghost use Rattle.std.specs.Prelude.{◌≡◌, ℕ, suc, [], ◌∷◌, ◌++◌, false, if◌then◌else◌, IfNone, IfOk, IfSome, OnOk, length, map, slice_index_or};
-ghost use Rattle.aud_meaning.specs.Parts.{calls_on_object, calls_on_task, changed, contains, is_queued, no_call, owner_number, queue, Waiting};
+ghost use Rattle.aud_meaning.specs.Parts.{calls_on_object, calls_on_task, changed, contains, is_object, is_queued, is_task, no_call, numbers, owner_number, queue, Waiting};
 ghost use Rattle.aud_over.specs.Over.{calls_left};
-ghost use Rattle.aud_state.specs.Queues.{is_at, oldest, waiting, without};
+ghost use Rattle.aud_state.specs.Queues.{calls_by, is_at, oldest, waiting, without};
 ghost use Rattle.aud_state.specs.View.{made_call, plain_call, plain_slot};
 
 use crate::queues::Queues;
@@ -384,7 +384,9 @@ impl Calls {
     ) -> Result<Vec<usize>, AllocError>
         ensures { IfOk result (λ ids. ids.items ≡ calls_on_task task self.now.calls) }
     {
-        queued_among(alloc, &self.calls, task)
+        let mut ids = self.all_queued(alloc)?;
+        ids.retain(|id| is_task(self.owner(*id), task));
+        Ok(ids)
     }
 
     /// Those that are queued on an object's entries, by their numbers.
@@ -395,7 +397,37 @@ impl Calls {
     ) -> Result<Vec<usize>, AllocError>
         ensures { IfOk result (λ ids. ids.items ≡ calls_on_object object self.now.calls) }
     {
-        queued_at(alloc, &self.calls, object)
+        let mut ids = self.all_queued(alloc)?;
+        ids.retain(|id| is_object(self.owner(*id), object));
+        Ok(ids)
+    }
+
+    /// Those of a task that are queued, by their numbers.
+    pub(crate) fn queued_by(&self, alloc: Global, caller: usize) -> Result<Vec<usize>, AllocError>
+        ensures { IfOk result (λ ids. ids.items ≡ calls_by caller self.now.calls) }
+    {
+        let mut ids = self.all_queued(alloc)?;
+        ids.retain(|id| self.caller(*id) == caller);
+        Ok(ids)
+    }
+
+    // Those that are queued, by their numbers. The queues tell, since most of all calls ever made are over.
+    fn all_queued(&self, alloc: Global) -> Result<Vec<usize>, AllocError>
+        ensures { IfOk result (λ ids. ids.items ≡
+            numbers (λ c. is_queued c.state) 0 self.now.calls) }
+    {
+        let mut ids = self.queues.all(alloc)?;
+        ids.retain(|id| self.is_queued(*id));
+        ids.sort_unstable();
+        ids.dedup();
+        Ok(ids)
+    }
+
+    // Whether it is queued.
+    fn is_queued(&self, id: usize) -> bool
+        ensures { result ≡ is_queued (slice_index_or self.now.calls id no_call).state }
+    {
+        matches!(self.state(id), CallState::Queued)
     }
 }
 
@@ -409,32 +441,6 @@ fn give_back(calls: &mut Vec<Slot>, served: &[usize])
             calls[id].give_back();
         }
     }
-}
-
-// Of these calls those that are queued on a task's entries.
-fn queued_among(alloc: Global, calls: &[Slot], task: usize) -> Result<Vec<usize>, AllocError>
-    ensures { IfOk result (λ ids. ids.items ≡ calls_on_task task (map plain_slot calls.now)) }
-{
-    let mut found = Vec::new(alloc);
-    for (n, slot) in calls.iter().enumerate() {
-        if slot.is_queued_on(task) {
-            found.push(n)?;
-        }
-    }
-    Ok(found)
-}
-
-// Of these calls those that are queued on an object's entries.
-fn queued_at(alloc: Global, calls: &[Slot], object: usize) -> Result<Vec<usize>, AllocError>
-    ensures { IfOk result (λ ids. ids.items ≡ calls_on_object object (map plain_slot calls.now)) }
-{
-    let mut found = Vec::new(alloc);
-    for (n, slot) in calls.iter().enumerate() {
-        if slot.is_queued_at(object) {
-            found.push(n)?;
-        }
-    }
-    Ok(found)
 }
 
 // A call leaves its queue, if it is in one.
@@ -455,5 +461,25 @@ fn number_of(owner: Owner) -> usize
     match owner {
         Owner::Task(task) => task,
         Owner::Object(object) => object,
+    }
+}
+
+// Whether it is this task.
+fn is_task(owner: Owner, task: usize) -> bool
+    ensures { result ≡ is_task task owner }
+{
+    match owner {
+        Owner::Task(number) => number == task,
+        Owner::Object(_) => false,
+    }
+}
+
+// Whether it is this object.
+fn is_object(owner: Owner, object: usize) -> bool
+    ensures { result ≡ is_object object owner }
+{
+    match owner {
+        Owner::Task(_) => false,
+        Owner::Object(number) => number == object,
     }
 }

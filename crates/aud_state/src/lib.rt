@@ -1,6 +1,7 @@
 // All tasks with what they share in memory, as the meaning has them.
 #![tactic(auto)]
 
+mod aborting;
 mod accepting;
 mod actions;
 mod alone;

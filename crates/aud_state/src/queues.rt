@@ -1,6 +1,7 @@
 // The queues of entries (RM 9.5.3, D.4).
 
-ghost use Rattle.std.specs.Prelude.{◌≡◌, ◌∷◌, ◌++◌, [], IfNone, IfSome, OnErr, OnOk};
+ghost use Rattle.std.specs.Prelude.{◌≡◌, ℕ, ◌∷◌, ◌++◌, [], IfNone, IfOk, IfSome, OnErr, OnOk};
+ghost use Rattle.aud_meaning.specs.Parts.{any, contains};
 ghost use Rattle.aud_state.specs.Queues.{AreOthers, Changes, IsFirst, IsSame, is_of, waiting, without};
 
 use std::alloc::{AllocError, Global};
@@ -46,6 +47,22 @@ impl Queues {
             Some(at) => &self.queues[at].calls,
             None => &[],
         }
+    }
+
+    /// The calls of all queues, by their numbers.
+    ///
+    /// # Errors
+    ///
+    /// Where memory is refused.
+    pub(crate) fn all(&self, alloc: Global) -> Result<Vec<usize>, AllocError>
+        ensures { IfOk result (λ ids. (id : ℕ) → contains id ids.items ≡
+            any (λ queue. contains id queue.calls.items) self.now.queues.items) }
+    {
+        let mut ids = Vec::new(alloc);
+        for queue in &self.queues {
+            ids.extend_from_slice(&queue.calls)?;
+        }
+        Ok(ids)
     }
 
     /// A call comes behind those that are queued on an entry.

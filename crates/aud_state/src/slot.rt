@@ -1,8 +1,8 @@
 // The place of an entry call among all of them.
 
-ghost use Rattle.std.specs.Prelude.{◌≡◌, ◌&&◌, not, IfNone, IfOk, IfSome, OnOk};
+ghost use Rattle.std.specs.Prelude.{◌≡◌, not, IfNone, IfOk, IfSome, OnOk};
 ghost use Rattle.aud_meaning.specs.declared.state.CallState.TheVariants.{Queued};
-ghost use Rattle.aud_meaning.specs.Parts.{is_object, is_queued, is_task, no_call};
+ghost use Rattle.aud_meaning.specs.Parts.{is_queued, no_call};
 ghost use Rattle.aud_over.specs.Over.{call_if, is_call_over};
 ghost use Rattle.aud_state.specs.View.{made_call, plain_call, plain_slot, IsKept};
 
@@ -74,26 +74,6 @@ impl Slot {
         ensures { result ≡ is_queued (plain_slot self.now).state }
     {
         matches!(self.state(), CallState::Queued)
-    }
-
-    /// Whether it is queued on an entry of this task.
-    pub(crate) fn is_queued_on(&self, task: usize) -> bool
-        ensures { result ≡ (is_queued (plain_slot self.now).state && is_task task (plain_slot self.now).owner) }
-    {
-        match (self.state(), self.owner()) {
-            (CallState::Queued, Owner::Task(owner)) => owner == task,
-            _ => false,
-        }
-    }
-
-    /// Whether it is queued on an entry of this object.
-    pub(crate) fn is_queued_at(&self, object: usize) -> bool
-        ensures { result ≡ (is_queued (plain_slot self.now).state && is_object object (plain_slot self.now).owner) }
-    {
-        match (self.state(), self.owner()) {
-            (CallState::Queued, Owner::Object(owner)) => owner == object,
-            _ => false,
-        }
     }
 
     /// It comes so far.

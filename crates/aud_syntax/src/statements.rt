@@ -1,8 +1,8 @@
 // The canonical text of declarations, statements and bodies, which lie in one another.
 
 ghost use Rattle.aud_syntax.specs.Ties.Writes.{Writes};
-ghost use Rattle.aud_syntax.specs.Ties.View.{plain_declaration, plain_declarations, plain_procedure, plain_task_body, plain_protected_body, plain_operation_body, operation_body_list, plain_expression, plain_maybe, plain_name, plain_statement, plain_others, plain_statements, plain_if, arm_list, plain_iteration, plain_parameter, plain_choices, plain_loop_statement, plain_block, plain_body, handler_list, plain_delay, plain_accept, plain_done, plain_select, guarded_list, plain_alternative, plain_selected_call, plain_other};
-ghost use Rattle.aud_syntax.specs.Why.Printed.{declaration_words, declarations_words, operation_body_words, operation_bodies_words, null_words, assignment_words, call_words, label_words, reverse_words, iteration_words, exit_words, value_words, return_words, raise_words, declare_words, choices_words, expression_words, arm_words, arms_words, otherwise_words, statement_words, more_statements_words, statements_words, body_words, handler_words, handlers_words, handled_words, words_behind, seconds_words, duration_words, delay_words, accept_words, doing_words, guard_words, terminate_words, guarded_words, alternative_words, alternatives_words, other_words, end_select_words};
+ghost use Rattle.aud_syntax.specs.Ties.View.{plain_declaration, plain_declarations, plain_procedure, plain_task_body, plain_protected_body, plain_operation_body, operation_body_list, plain_expression, plain_maybe, plain_name, plain_statement, plain_others, plain_statements, plain_if, arm_list, plain_iteration, plain_parameter, plain_choices, plain_loop_statement, plain_block, plain_body, handler_list, plain_delay, plain_accept, plain_done, plain_select, guarded_list, plain_alternative, plain_selected_call, plain_other, plain_names, plain_abort};
+ghost use Rattle.aud_syntax.specs.Why.Printed.{declaration_words, declarations_words, operation_body_words, operation_bodies_words, null_words, assignment_words, call_words, label_words, reverse_words, iteration_words, exit_words, value_words, return_words, raise_words, declare_words, choices_words, expression_words, arm_words, arms_words, otherwise_words, statement_words, more_statements_words, statements_words, body_words, handler_words, handlers_words, handled_words, words_behind, seconds_words, duration_words, delay_words, accept_words, doing_words, guard_words, terminate_words, guarded_words, alternative_words, alternatives_words, other_words, end_select_words, more_names_words};
 
 use crate::declarations::{
     push_array, push_constant, push_exceptions, push_formals, push_head, push_object, push_task,
@@ -12,10 +12,10 @@ use crate::expressions::{
 };
 use crate::protected::{push_ending, push_operation_head, push_protected};
 use crate::tree::{
-    AcceptStatement, Alternative, Arm, BlockStatement, Body, Choices, Declaration, Delay,
-    Expression, Guarded, Handler, Ident, IfStatement, Iteration, LoopParameter, LoopStatement,
-    Name, OperationBody, Otherwise, ProcedureDeclaration, ProtectedBody, Real, SelectStatement,
-    SelectedCall, Statement, Statements, TaskBody,
+    AbortStatement, AcceptStatement, Alternative, Arm, BlockStatement, Body, Choices, Declaration,
+    Delay, Expression, Guarded, Handler, Ident, IfStatement, Iteration, LoopParameter,
+    LoopStatement, Name, OperationBody, Otherwise, ProcedureDeclaration, ProtectedBody, Real,
+    SelectStatement, SelectedCall, Statement, Statements, TaskBody,
 };
 use crate::words::{
     push_end_name, push_ident, push_idents, push_last_word, push_real, push_two_words, push_word,
@@ -153,6 +153,7 @@ fn push_statement(out: &mut Vec<u8>, statement: &Statement) -> Result<(), AllocE
         Statement::Delay(statement) => push_delay(out, statement),
         Statement::Select(statement) => push_select(out, statement),
         Statement::SelectCall(statement) => push_selected_call(out, statement),
+        Statement::Abort(statement) => push_abort(out, statement),
     }
 }
 
@@ -458,6 +459,27 @@ fn push_other(out: &mut Vec<u8>, otherwise: &Otherwise) -> Result<(), AllocError
             push_statements(out, statements)
         }
     }
+}
+
+// RM 9.8
+fn push_abort(out: &mut Vec<u8>, statement: &AbortStatement) -> Result<(), AllocError>
+    ensures { Writes result out.old out.new (statement_words (plain_abort statement.now)) }
+{
+    push_word(out, b"abort")?;
+    push_name(out, &statement.first)?;
+    push_more_names(out, &statement.others)?;
+    push_last_word(out, b";")
+}
+
+// Further names, each behind a comma.
+fn push_more_names(out: &mut Vec<u8>, others: &[Name]) -> Result<(), AllocError>
+    ensures { Writes result out.old out.new (more_names_words (plain_names others.now)) }
+{
+    for next in others {
+        push_word(out, b",")?;
+        push_name(out, next)?;
+    }
+    Ok(())
 }
 
 fn push_terminate(out: &mut Vec<u8>) -> Result<(), AllocError>

@@ -390,6 +390,15 @@ pub enum Statement {
     Select(Box<SelectStatement>),
     /// A timed or a conditional entry call.
     SelectCall(Box<SelectedCall>),
+    Abort(Box<AbortStatement>),
+}
+
+/// An abort statement (RM 9.8): where its `abort` stands, and the tasks that it names.
+#[derive(Drop)]
+pub struct AbortStatement {
+    pub at: Pos,
+    pub first: Name,
+    pub others: Vec<Name>,
 }
 
 /// An if statement (RM 5.3): what stands behind `if`, what behind each `elsif`, and the statements behind `else`, of which

@@ -20,6 +20,7 @@ ghost use Rattle.aud_tasks.specs.Endings.{is_declaration, is_statement, is_too_l
 use crate::compiled::Compiled;
 use crate::leave::leave;
 use crate::{entries, objects};
+use aud_abort::aborting;
 use aud_code::line::{Among, EndLine, Ending, Last};
 use aud_expr::operands::Operands;
 use aud_masters::{activation, creation};
@@ -184,6 +185,7 @@ fn concern(
             at,
             operands,
         )?,
+        Among::Abort => aborting::abort(state, alloc, compiled.code, operands.names(), at, n)?,
     }
     Ok(0)
 }

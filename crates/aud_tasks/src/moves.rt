@@ -9,7 +9,7 @@ ghost use Rattle.aud_meaning.specs.Tasks.{eligible};
 ghost use Rattle.aud_code.specs.Flat.{barrier_at, flat_controls, Flat};
 ghost use Rattle.aud_tasks.specs.Enabled.{enabled_moves};
 ghost use Rattle.aud_code.specs.Starts.{AreSpots};
-ghost use Rattle.aud_tasks.specs.Choices.{ComesTo, IsNoStart};
+ghost use Rattle.aud_tasks.specs.Choices.{ComesTo};
 ghost use Rattle.aud_tasks.specs.Moving.{alone_if, has_some, moves_behind, moves_of, picked, IsNextMover};
 ghost use Rattle.aud_tasks.specs.Turning.{coming_in};
 
@@ -21,9 +21,10 @@ use crate::times::soonest;
 use crate::turn::{Turn, turn_of};
 use aud_code::sound_code::SoundCode;
 use aud_expr::operands::Operands;
-use aud_masters::ending::closable;
+use aud_masters::ending::{can_leave, closable};
 use aud_meaning::state::{Move, OpenDelay, State as Standing, Status};
 use aud_protected::barriers::{EligibleEntries, eligible};
+use aud_protected::starting::may_begin;
 use aud_select::selecting::open_set;
 use aud_state::state::State;
 use std::alloc::{AllocError, Global};
@@ -165,7 +166,6 @@ pub(crate) fn may_move(state: &State) -> bool
 
 /// Whether the task of this number has a move.
 pub(crate) fn has_move(state: &State, compiled: Compiled<'_>, task: usize) -> bool
-    requires { task < length state.now.tasks }
     ensures { result ≡ has_some (moves_of (plain_program compiled.entry.program.now).plan
         compiled.entry.code.now task state.now) }
 {
@@ -193,7 +193,6 @@ fn has_ended_delay(delays: &[OpenDelay], task: usize, clock: u64) -> bool
 
 // Whether a task's own next step is its only move, as far as one look tells.
 fn acts_simply(state: &State, code: &SoundCode, task: usize) -> bool
-    requires { task < length state.now.tasks }
     ensures { IsTrue result → (plan : Plan) → moves_of plan code.now task state.now ≡ alone_if true task }
 {
     if state.is_plain(task) {
@@ -337,19 +336,7 @@ fn can_act(state: &State, compiled: Compiled<'_>, task: usize) -> bool
         (coming_in plan code task state.now) task (seen plan (flat_controls plan code) state.now)) }
 {
     match start_at(state, compiled, task) {
-        Some(start) => !state.is_in_the_way(task, start.reading, start.object),
+        Some(start) => may_begin(state, task, start.reading, start.object),
         None => can_leave(state, compiled.code, task),
-    }
-}
-
-// Whether no others keep the master that it leaves, if it leaves one.
-fn can_leave(state: &State, code: &SoundCode, task: usize) -> bool
-    ensures { (plan : Plan) → IsNoStart (coming_in plan code.now task state.now) →
-        result ≡ has_some (acting_moves plan (barrier_at code.now)
-        (coming_in plan code.now task state.now) task (seen plan (flat_controls plan code.now) state.now)) }
-{
-    match state.master_left(code, task) {
-        Some(master) => closable(state, master),
-        None => true,
     }
 }

@@ -1,6 +1,6 @@
 // What tasks are doing.
 
-ghost use Rattle.std.specs.Prelude.{◌≡◌, ◌<◌, ◌&&◌, length, not, true, false, Bool, Result, ℕ};
+ghost use Rattle.std.specs.Prelude.{◌≡◌, ◌&&◌, not, true, false, Bool, Result, ℕ};
 ghost use Rattle.aud_text.specs.declared.raise.Raise.{Raise as RaiseOf};
 ghost use Rattle.aud_typed.specs.Tree.{Plan};
 ghost use Rattle.aud_typed.specs.Ties.View.{plain_program};
@@ -39,7 +39,6 @@ pub enum Shown {
 
 /// What the task of this number, counted from 0, is doing.
 pub fn status_of(state: &State, compiled: Compiled<'_>, task: usize) -> Shown
-    requires { task < length state.now.tasks }
     ensures { words_of result ≡ status_in (plain_program compiled.entry.program.now).plan
         compiled.entry.code.now task state.now }
 {
@@ -93,7 +92,6 @@ fn servicing(state: &State, task: usize) -> Shown
 
 // What any other is doing.
 fn otherwise(state: &State, compiled: Compiled<'_>, task: usize) -> Shown
-    requires { task < length state.now.tasks }
     ensures { words_of result ≡ status_if false (plain_program compiled.entry.program.now).plan
         compiled.entry.code.now task state.now }
 {
@@ -111,7 +109,6 @@ fn otherwise(state: &State, compiled: Compiled<'_>, task: usize) -> Shown
 
 // What one is doing that runs.
 fn running(state: &State, compiled: Compiled<'_>, task: usize) -> Shown
-    requires { task < length state.now.tasks }
     ensures { let plan = (plain_program compiled.entry.program.now).plan in
         let code = compiled.entry.code.now in words_of result ≡ running_word plan (barrier_at code)
         (turn_leaves plan (barrier_at code) (turn_in plan code task state.now) (own_of task state.now))
@@ -126,7 +123,6 @@ fn running(state: &State, compiled: Compiled<'_>, task: usize) -> Shown
 
 // What one is doing that is blocked at an entry call.
 fn calling(state: &State, compiled: Compiled<'_>, task: usize) -> Shown
-    requires { task < length state.now.tasks }
     ensures { let plan = (plain_program compiled.entry.program.now).plan in
         let code = compiled.entry.code.now in words_of result ≡ call_word plan (barrier_at code)
         (call_of (own_of task state.now).call state.now).state (moves_of plan code task state.now) }
@@ -140,7 +136,6 @@ fn calling(state: &State, compiled: Compiled<'_>, task: usize) -> Shown
 
 // Ready where it has a move.
 fn ready_or(state: &State, compiled: Compiled<'_>, task: usize, other: Shown) -> Shown
-    requires { task < length state.now.tasks }
     ensures { let plan = (plain_program compiled.entry.program.now).plan in
         let code = compiled.entry.code.now in words_of result ≡ ready_or plan (barrier_at code)
         (words_of other) (moves_of plan code task state.now) }

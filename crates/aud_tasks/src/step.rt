@@ -15,9 +15,10 @@ use crate::act::act;
 use crate::barriers::Evaluator;
 use crate::compiled::Compiled;
 use crate::turn::{Turn, turn_of};
+use aud_abort::{completing, withdrawing};
 use aud_code::sound_code::SoundCode;
 use aud_expr::operands::Operands;
-use aud_masters::{completion, ending};
+use aud_masters::ending;
 use aud_meaning::state::{Move, Serving};
 use aud_protected::{cancelling, servicing};
 use aud_select::expiring;
@@ -77,7 +78,7 @@ fn take_turn(
             Ok(0)
         }
         Turn::Completing => {
-            completion::complete(state, alloc, compiled.code, n, None)?;
+            completing::complete_abnormal(state, alloc, compiled.code, n)?;
             Ok(0)
         }
         Turn::Expiring => {
@@ -91,7 +92,7 @@ fn take_turn(
         }
         Turn::Withdrawing(object) => {
             let mut barriers = Evaluator::new(alloc, compiled);
-            cancelling::withdraw(state, alloc, compiled.code, &mut barriers, object, n)?;
+            withdrawing::withdraw(state, alloc, compiled.code, &mut barriers, object, n)?;
             Ok(barriers.ticks())
         }
         Turn::Serving(serving) => serve(state, alloc, compiled, serving, taken.alternative, n),

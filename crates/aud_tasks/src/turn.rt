@@ -6,8 +6,9 @@ ghost use Rattle.aud_meaning.specs.Parts.{own_of};
 ghost use Rattle.aud_meaning.specs.Run as run;
 ghost use Rattle.aud_meaning.specs.Run.{seen};
 ghost use Rattle.aud_code.specs.Flat.{barrier_at, flat_controls, Flat};
-ghost use Rattle.aud_tasks.specs.Turning.{bound_in, deferred_in, seen_in, turn_in, turned, usual_in};
+ghost use Rattle.aud_tasks.specs.Turning.{seen_in, turn_in, turned, usual_in};
 
+use aud_abort::deferring::is_deferred;
 use aud_code::sound_code::SoundCode;
 use aud_meaning::state::{Serving as Servicing, Status};
 use aud_state::state::State;
@@ -83,31 +84,5 @@ fn usual(state: &State, n: usize) -> Turn
                 Turn::Resting
             }
         },
-    }
-}
-
-// Whether an abnormal task goes on for now: it has an action under way, or is bound otherwise (RM 9.8(6 to 11)).
-fn is_deferred(state: &State, code: &SoundCode, n: usize) -> bool
-    ensures { (plan : Plan) → result ≡ deferred_in plan code.now n state.now }
-{
-    if state.in_action(n) {
-        return true;
-    }
-    is_bound(state, code, n)
-}
-
-// Whether its call is selected, or it is at the end of a master.
-fn is_bound(state: &State, code: &SoundCode, n: usize) -> bool
-    ensures { (plan : Plan) → result ≡ bound_in plan code.now n state.now }
-{
-    match state.status(n) {
-        Status::Running => state.master_left(code, n).is_some(),
-        Status::Calling => state.is_selected(n),
-        Status::Created
-        | Status::Activating
-        | Status::Accepting
-        | Status::Delaying
-        | Status::Completed
-        | Status::Terminated => false,
     }
 }

@@ -300,6 +300,8 @@ pub enum Statement {
     Delay(Pos, DelayExpression),
     Accept(Box<AcceptStatement>),
     Select(Box<SelectStatement>),
+    /// These tasks, and those that depend on them, become abnormal (RM 9.8).
+    Abort(Pos, Vec<TaskName>),
 }
 
 /// The condition and statements behind `if`, those behind each `elsif`, and the statements behind `else`, which are none where

@@ -58,6 +58,7 @@ use Rattle.aud_check_bodies.proofs.Scoping.Alike.{own_frame, its_frame, parts_mo
 use Rattle.aud_check_bodies.proofs.Scoping.Operations.{PartsAre, parts_grown, parts_there, part_in_is}
 use Rattle.aud_check_bodies.proofs.Scoping.Objects as of_objects
 use Rattle.aud_check_bodies.proofs.Scoping.Objects.{Declaring, none_declared, operations_declared, items_declared, body_frames, both_true, fine_if, conform_length, awaited_is, common, each_same, barrier_barred}
+use Rattle.aud_check_bodies.proofs.Scoping.Aborts.{abort_scoped}
 use Rattle.aud_check_bodies.proofs.Scoping.Single.{call_scoped, assign_scoped, entry_call_scoped, selected_scoped, delay_scoped, form_scoped, body_with_scoped, IsStatement, AcceptScoped, AlternativeScoped, ArmScoped, HandlerScoped, alternatives_scoped, before_scoped, part_scoped, arms_then_scoped, handlers_of_scoped, choices_there, raise_scoped}
 
 -- behind its declarations a body has all that its table names
@@ -791,7 +792,7 @@ module _ (plan : Plan) (entries : List Entry) where
 
   abort_fine : (at : Pos) (x : plain.Name) (xs : plain.Names) (around : Around) (n : Place) (t : Tables) (scope : Scope) → StatementFine (plain.abort at x xs) around n t scope
   unfolding StatementFine
-  abort_fine at x xs around n t scope = λ fits p r q. ((tt, refl), none_between plan entries t)
+  abort_fine at x xs around n t scope = λ fits p r q. (abort_scoped (seen plan entries t) scope n (regions_see (seen plan entries t) scope n fits.regions) at x xs, none_between plan entries t)
 
   requeue_fine : (at : Pos) (x : plain.Name) (with_abort : Bool) (around : Around) (n : Place) (t : Tables) (scope : Scope) → StatementFine (plain.requeue at x with_abort) around n t scope
   unfolding StatementFine

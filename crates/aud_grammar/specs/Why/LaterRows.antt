@@ -27,24 +27,17 @@ StatementIs p source s = IsPhrase the_statement p LEVELS source (Ok s)
 abbrev pub StatementStops : Phrase → List ℕ → ℕ → Type 0
 StatementStops p source n = IsPhrase the_statement p LEVELS source (Err (wrong_at n))
 
--- RM 9.8, 9.5.4
+-- RM 9.5.4
 abbrev pub TreesOfLater : Type 0
 TreesOfLater =
-    StatementIs g.Abort (codes "abort T;")
-    (m.abort (col 1) (the_name (a_part (codes "T") 7 []) []) m.no_names)
-    × StatementIs g.Abort (codes "abort T (1), Q.R;")
-    (m.abort (col 1) (the_name (a_part (codes "T") 7 (num 1 (col 10) ∷ [])) []) (m.more_names (the_name (a_part (codes "Q") 14 []) (a_part (codes "R") 16 [] ∷ [])) m.no_names))
-    × StatementIs g.Requeue (codes "requeue A;")
+    StatementIs g.Requeue (codes "requeue A;")
     (m.requeue (col 1) (the_name (a_part (codes "A") 9 []) []) false)
     × StatementIs g.Requeue (codes "requeue T.E (1) with abort;")
     (m.requeue (col 1) (the_name (a_part (codes "T") 9 []) (a_part (codes "E") 11 (num 1 (col 14) ∷ []) ∷ [])) true)
 
 abbrev pub FaultsOfLater : Type 0
 FaultsOfLater =
-    StatementStops g.Abort (codes "abort;") 1
-    × StatementStops g.Abort (codes "abort T,;") 3
-    × StatementStops g.Abort (codes "abort T, 1;") 3
-    × StatementStops g.Requeue (codes "requeue;") 1
+    StatementStops g.Requeue (codes "requeue;") 1
     × StatementStops g.Requeue (codes "requeue A with;") 3
     × StatementStops g.Requeue (codes "requeue A with X;") 3
     × StatementStops g.Requeue (codes "requeue A, B;") 2

@@ -4,13 +4,13 @@ use Rattle.std.proofs.lemmas.Bool.{cases_lt}
 use Rattle.aud_typed.specs.declared.program.Variable.{Variable}
 use Rattle.aud_typed.specs.declared.program.ArrayAt.{ArrayAt}
 use Rattle.aud_typed.specs.Tree.{IntegerExpression, number, variable, element, unary, binary, count, Reference, scalar, component, TaskName, single, indexed, BooleanExpression, truth, stored, negation, relation, comparison, logical, and_then, or_else, callable, terminated, ValueExpression, whole, boolean, TextExpression, literal, image, image_truth, join, new_line, DelayExpression, milliseconds, seconds, Argument, by_value, by_copy, CallForm, plainly, conditionally, timed, Callee, of_task, of_object, Statement, sequence, declare, declare_array, declare_tasks, declare_object, assign, put, if_then, while_loop, for_loop, exit, return_value, procedure_call, own_entry_call, operation_call, entry_call, delay, select, abort, Alternatives, no_alternatives, accepting, delaying, terminating, Plan}
-use Rattle.aud_typed.specs.Why.Scoped.{Elaborated, Scope, cells_at, IsElaborated, AreElaborated, IntegerScoped, ReferenceScoped, TaskScoped, BooleanScoped, ValueScoped, ArgumentScoped, ArgumentsScoped, TextScoped, DelayScoped, FormScoped, CalleeScoped, IntoScoped, ComponentsScoped, own_number, in_innermost, declared_up_to, declared_with, scope_after, Entry, AreOpen, AreAround, StatementScoped, AlternativesScoped}
+use Rattle.aud_typed.specs.Why.Scoped.{Elaborated, Scope, cells_at, IsElaborated, AreElaborated, IntegerScoped, ReferenceScoped, TaskScoped, AllTasksScoped, BooleanScoped, ValueScoped, ArgumentScoped, ArgumentsScoped, TextScoped, DelayScoped, FormScoped, CalleeScoped, IntoScoped, ComponentsScoped, own_number, in_innermost, declared_up_to, declared_with, scope_after, Entry, AreOpen, AreAround, StatementScoped, AlternativesScoped}
 use Rattle.aud_code.specs.Instruction.{Instruction}
 use Rattle.aud_code.specs.Seen.{IsWritten, ArrayOpen, Fewer, OutSees}
 use Rattle.aud_code.specs.Seen as seen
 use Rattle.aud_layout.specs.Layout.{What, does}
 use Rattle.aud_layout.specs.Assembly.{instructions_by}
-use Rattle.aud_layout.specs.Instructions.{integer_code, loaded_code, reference_code, task_code, condition_code, value_code, text_code, into_code, argument_code, arguments_code, delay_code, form_code, components_code, called_code, call_code, guards_code, timed_code, delays_code}
+use Rattle.aud_layout.specs.Instructions.{integer_code, loaded_code, reference_code, task_code, names_code, condition_code, value_code, text_code, into_code, argument_code, arguments_code, delay_code, form_code, components_code, called_code, call_code, guards_code, timed_code, delays_code}
 
 pub is_written : (o : Option ℕ) (n : ℕ) (P : ℕ → Type 0) → o ≡ Some n → P n → IsWritten o P
 is_written o n P e p = subst (λ x. IsWritten x P) (sym e) p
@@ -119,6 +119,10 @@ module _ (scope : Scope) where
   task_open (single v) h = (variable_open v scope h, tt)
   task_open (indexed a e) h = both N (integer_code e) _ (integer_open e h.1) (array_open a scope h.0, tt)
 
+  tasks_open : (ts : List TaskName) → AllTasksScoped ts scope → AllOpen N (names_code ts)
+  tasks_open [] h = tt
+  tasks_open (t ∷ ts) h = both N (task_code t) _ (task_open t h.0) (tt, tasks_open ts h.1)
+
   pub condition_open : (e : BooleanExpression) → BooleanScoped e scope → AllOpen N (condition_code e)
   condition_open (truth b) h = (tt, tt)
   condition_open (stored r) h = both N (loaded_code r) _ (loaded_open r h) (tt, tt)
@@ -211,7 +215,7 @@ module _ (scope : Scope) where
     statement_open (entry_call at c p q) h = call_open scope c.callee c.arguments c.form h.0.1 h.0.2 h.0.3
     statement_open (delay at e) h = delay_open scope e h
     statement_open (select at offered p) h = both M (guards_code 1 offered) _ (guards_open 1 offered h.0) (tt, delays_open 1 offered h.0)
-    statement_open (abort at ts) h = absurd h
+    statement_open (abort at ts) h = tasks_open scope ts h
     statement_open s h = tt
 
   pub names_open : (plan : Plan) (entries : List Entry) (n : ℕ) (s : Statement) → length scope ≡ n → StatementScoped plan entries s scope → StepOpen n (does s)

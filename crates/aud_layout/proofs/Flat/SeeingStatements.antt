@@ -3,7 +3,7 @@ use Rattle.std.proofs.Common.{◌≡◌, inl, ℕ, zero, suc, ◌+◌, ◌≤◌
 use Rattle.aud_text.specs.declared.place.Pos.{Pos}
 use Rattle.aud_typed.specs.declared.program.Variable.{Variable}
 use Rattle.aud_typed.specs.Tree as tree
-use Rattle.aud_typed.specs.Tree.{Statement, sequence, declare, declare_array, declare_tasks, declare_object, if_then, plain_loop, while_loop, for_loop, exit, return, return_value, block, procedure_call, own_entry_call, operation_call, entry_call, delay, accept, select, abort, Part, nothing, some, Handlers, no_handlers, handler, Body, body, Doing, without_do, with_do, Alternatives, no_alternatives, accepting, delaying, terminating, Callee, of_task, of_object, CallForm, TaskPlan, EntryPlan, Plan, Program}
+use Rattle.aud_typed.specs.Tree.{Statement, sequence, declare, declare_array, declare_tasks, declare_object, if_then, plain_loop, while_loop, for_loop, exit, return, return_value, block, procedure_call, own_entry_call, operation_call, entry_call, delay, accept, select, Part, nothing, some, Handlers, no_handlers, handler, Body, body, Doing, without_do, with_do, Alternatives, no_alternatives, accepting, delaying, terminating, Callee, of_task, of_object, CallForm, TaskPlan, EntryPlan, Plan, Program}
 use Rattle.aud_typed.specs.Why.Scoped.{Elaborated, Scope, scope_after, IsElaborated, CalleeScoped, BodyAround, entry_unit, no_entry_plan, all_formals, all_of_table, Entry, entry_of, no_task, task_of, table, CreatedScoped, AllCreatedScoped, StatementScoped, PartScoped, DoingScoped, AlternativesScoped, HandlersScoped, BodyScoped, none_yet}
 use Rattle.aud_meaning.specs.Parts as parts
 use Rattle.aud_meaning.specs.declared.state.Construct.{Construct}
@@ -125,7 +125,6 @@ module _ (program : Program) (seen : List ℕ) (base : ℕ) (entries : List Entr
   ending_sees (procedure_call at c) n declares scope e sc dc cr = entered c.unit n scope e sc.0 (open_long (entry_of entries c.unit).outer scope sc.2)
   ending_sees (operation_call at v c) n declares scope e sc dc cr = (object_open v n scope e sc.0, entered_around c.unit n scope e sc.1.0 (around_long (entry_of entries c.unit).outer scope sc.1.2))
   ending_sees (entry_call at c p q) n declares scope e sc dc cr = call_sees c.callee c.entry c.form n scope e sc.0.0 sc.0.1 sc.0.4
-  ending_sees (abort at ts) n declares scope e sc dc cr = absurd sc
   ending_sees s n declares scope e sc dc cr = tt
 
   -- a statement's own line, with its ways and what accepts do

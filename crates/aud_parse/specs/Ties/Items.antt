@@ -6,6 +6,7 @@ use Rattle.aud_syntax.specs.declared.tree.Ident.{Ident}
 use Rattle.aud_syntax.specs.declared.tree.Identifiers.{Identifiers}
 use Rattle.aud_syntax.specs.declared.tree.Simple.{Simple}
 use Rattle.aud_syntax.specs.declared.tree.Expression.{Expression}
+use Rattle.aud_syntax.specs.declared.tree.Name.{Name}
 use Rattle.aud_syntax.specs.declared.tree.Formal.{Formal}
 use Rattle.aud_syntax.specs.declared.tree.EntryDeclaration.{EntryDeclaration}
 use Rattle.aud_syntax.specs.declared.tree.TaskDefinition.{TaskDefinition}
@@ -27,8 +28,8 @@ use Rattle.aud_syntax.specs.declared.tree.Handler.{Handler}
 use Rattle.aud_syntax.specs.declared.tree.Body.{Body}
 use Rattle.aud_syntax.specs.declared.tree.Unit as declared
 use Rattle.aud_syntax.specs.Plain as m
-use Rattle.aud_syntax.specs.Ties.View.{plain_expression, plain_maybe, plain_formal, plain_entry, plain_task_definition, plain_definition, plain_operation, plain_private_item, plain_private, plain_operation_body, plain_declaration, plain_declarations, plain_statement, plain_statements, plain_iteration, plain_choices, plain_body, plain_done, plain_accept, plain_others, plain_delay, plain_alternative, guarded_list, plain_other, plain_unit}
-use Rattle.aud_grammar.specs.Actions.{Item, an_ident, assigned, called, some_names, a_variable, a_constant, a_declaration, a_statement, some_statements, a_body, a_unit, an_arm, an_iteration, a_bound, an_index, an_array, a_formal, a_definition, a_task, a_declare, a_handler, an_entry, an_operation, a_private_item, some_private, a_protected, an_operation_body, a_doing, an_accept, a_delay, an_alternative, further, an_otherwise}
+use Rattle.aud_syntax.specs.Ties.View.{plain_expression, plain_name, plain_maybe, plain_formal, plain_entry, plain_task_definition, plain_definition, plain_operation, plain_private_item, plain_private, plain_operation_body, plain_declaration, plain_declarations, plain_statement, plain_statements, plain_iteration, plain_choices, plain_body, plain_done, plain_accept, plain_others, plain_delay, plain_alternative, guarded_list, plain_other, plain_unit}
+use Rattle.aud_grammar.specs.Actions.{Item, an_ident, a_name, assigned, called, some_names, a_variable, a_constant, a_declaration, a_statement, some_statements, a_body, a_unit, an_arm, an_iteration, a_bound, an_index, an_array, a_formal, a_definition, a_task, a_declare, a_handler, an_entry, an_operation, a_private_item, some_private, a_protected, an_operation_body, a_doing, an_accept, a_delay, an_alternative, further, an_otherwise}
 use Rattle.aud_cursor.specs.Ties.Items.{vec_item, opt_item, boxed_item}
 use Rattle.aud_parse_expr.specs.Ties.Items.{simple_item, expression_item}
 use Rattle.aud_parse.specs.Ties.Parts.{else_statements, unboxed}
@@ -163,6 +164,10 @@ boxed_delay_item b = a_delay (plain_delay b.value)
 -- the condition of a guard, if there is one
 abbrev pub guard_item : Option (Box Expression Global) → Item
 guard_item x = opt_item expression_item (unboxed x)
+
+-- a task to be aborted
+abbrev pub task_name_item : Name → Item
+task_name_item x = a_name (plain_name x)
 
 abbrev pub alternative_item : Alternative → Item
 alternative_item x = an_alternative (plain_alternative x)

@@ -48,6 +48,7 @@ use Rattle.aud_syntax.specs.declared.tree.Iteration.TheVariants as iteration
 use Rattle.aud_syntax.specs.declared.tree.Statements.{Statements}
 use Rattle.aud_syntax.specs.declared.tree.AcceptStatement.{AcceptStatement, AcceptStatement', out-AcceptStatement, Held-AcceptStatement-doing, None', Some'}
 use Rattle.aud_syntax.specs.declared.tree.Delay.{Delay}
+use Rattle.aud_syntax.specs.declared.tree.AbortStatement.{AbortStatement}
 use Rattle.aud_syntax.specs.declared.tree.Delay.TheVariants as delay
 use Rattle.aud_syntax.specs.declared.tree.SelectStatement.{SelectStatement, SelectStatement', out-SelectStatement, Row_of-Guarded, end_of-Guarded, more_of-Guarded}
 use Rattle.aud_syntax.specs.declared.tree.Guarded.{Guarded}
@@ -214,6 +215,14 @@ abbrev pub plain_delay : Delay → m.Delay
 plain_delay (delay.Seconds at x) = m.delay_real at x
 plain_delay (delay.Duration at e) = m.delay_duration at (plain_expression e)
 
+-- RM 9.8
+abbrev pub plain_names : List name.Name → m.Names
+plain_names [] = m.no_names
+plain_names (x ∷ xs) = m.more_names (plain_name x) (plain_names xs)
+
+abbrev pub plain_abort : AbortStatement → m.Statement
+plain_abort x = m.abort x.at (plain_name x.first) (plain_names x.others.items)
+
 -- declarations, statements and bodies (RM 3.1, 5.1, 11.2)
 abbrev mutual
   pub plain_declaration : Declaration → m.Declaration
@@ -264,6 +273,7 @@ abbrev mutual
   plain_statement (statement.Delay x) = m.delaying (plain_delay x.value)
   plain_statement (Select' _ x) = plain_select x
   plain_statement (SelectCall' _ at x _ behind otherwise) = m.select_call at (plain_name x) (plain_row behind) (plain_other otherwise)
+  plain_statement (statement.Abort x) = plain_abort x.value
 
   pub plain_row : {n : _} → Row_of-Statement n → m.MoreStatements
   plain_row end_of-Statement = m.no_statements

@@ -1,7 +1,7 @@
 -- The moves of all tasks, task by task.
 use Rattle.std.proofs.Common.{◌≡◌, ◌<◌, ◌≤◌, ◌+◌, ℕ, zero, suc, List, [], ◌∷◌, ◌++◌, length, drop, map, get_or, Option, Some, None, Bool, true, false, Result, Ok, Err, if◌then◌else◌, slice_get, slice_index_or, add-one, append_assoc, refl, ap, sym, ◌∙◌, arith}
 use Rattle.std.proofs.lemmas.List.{at_drop_all, at_drop_more}
-use Rattle.std.proofs.lemmas.Option.{slice_get-get_or}
+use Rattle.std.proofs.lemmas.Option.{slice_get-get_or, slice_get_within}
 use Rattle.std.specs.Prelude.{filter, nat_le, not, ◌&&◌, ◌||◌}
 use Rattle.aud_text.specs.declared.raise.Raise.{Raise}
 use Rattle.aud_typed.specs.Tree.{Plan}
@@ -15,12 +15,14 @@ use Rattle.aud_meaning.specs.declared.state.State.TheVariants as state
 use Rattle.aud_meaning.specs.Configuration.{Call, Own, Shared, TaskAt, All}
 use Rattle.aud_meaning.specs.Control.{Coming, Seen, simply, ending, selecting, calling, starting}
 use Rattle.aud_meaning.specs.Parts.{any, body_master, depends, facts_in, in_the_way, is_queued, is_terminated, may_terminate, nobody, object_of, open_alternatives, own_of, owns, queue, Closable}
-use Rattle.aud_meaning.specs.Run.{acting_moves, alternatives_of, call_time, call_time_by, construct_left, each_or_one, end_moves, has_ended, has_queue, master_left_by, moves, moves_at, moves_by, moves_from, only, own_move, owner_idle, seen, seen_from, serve_moves, some_move, state_at, state_by, times_from, turn_at, turn_moves, turn_times, waiting_by}
+use Rattle.aud_meaning.specs.Run.{acting, acting_moves, alternatives_of, call_time, call_time_by, construct_left, each_or_one, end_moves, has_ended, has_queue, master_left_by, moves, moves_at, moves_by, moves_from, only, own_move, owner_idle, seen, seen_from, serve_moves, some_move, state_at, state_by, times_from, turn_at, turn_moves, turn_times, waiting_by}
 use Rattle.aud_meaning.specs.Tasks.{barrier_of, eligible, eligible_from, eligible_if, entries_of}
 use Rattle.aud_code.specs.Places.{Spot}
 use Rattle.aud_code.specs.Flat.{Flat, barrier_at, flat_controls}
-use Rattle.aud_state.specs.Reads.{cancelled_from, is_free, time_by, IsPlain, LeavesBy}
+use Rattle.aud_state.specs.Reads.{cancelled_from, is_free, time_by, IsPlain}
+use Rattle.aud_masters.specs.Leaving.{leaves_freely, may_leave}
 use Rattle.aud_tasks.specs.declared.turn.Turn.{Turn}
+use Rattle.aud_tasks.specs.declared.turn.Turn.TheVariants.{Acting}
 use Rattle.aud_tasks.specs.Choices.{IsNoStart}
 use Rattle.aud_tasks.specs.Enabled as told
 use Rattle.aud_tasks.specs.Moving.{alone_if, has_some, moves_behind, moves_of, times_of, IsNextMover, IsSimple, IsSingle}
@@ -109,6 +111,14 @@ module _ (plan : Plan) (code : Flat) where
 
     pub many : length d.tasks ≡ length c.tasks
     many = many_seen 0 c.tasks (owns c.tasks) c.shared
+
+    -- only one that is there acts
+    turn_there : (n : ℕ) (x : Coming) (o : Option (TaskAt Seen)) → slice_get d.tasks n ≡ o → turn_at plan (barrier_at code) o n d ≡ acting x → n < length c.tasks
+    turn_there n x None is h = absurd cc
+    turn_there n x (Some t) is h = let inside = slice_get_within d.tasks n t is in omega (arith, inside, many)
+
+    pub acting_there : (n : ℕ) (u : Turn) → turn_in plan code n c ≡ turned plan code n c u → u ≡ Acting → n < length c.tasks
+    acting_there n u h is = turn_there n (coming_in plan code n c) (slice_get d.tasks n) refl (h ∙ ap (turned plan code n c) is)
 
     pub own_seen : (n : ℕ) → own_of n d ≡ own_of n c
     own_seen n = ap (λ os. slice_index_or os n nobody) (owns_seen 0 c.tasks (owns c.tasks) c.shared)
@@ -229,39 +239,9 @@ module _ (plan : Plan) (code : Flat) where
         ∙ ap (λ b. only plan (barrier_at code) b n) (sym (closable_seen (body_master (own_of n c))))
         ∙ ap (λ (o : Own). only plan (barrier_at code) (Closable (body_master o) d) n) (sym (own_seen n))
 
-    -- it ends a construct, or does not
-    abbrev LeavesOnly : Coming → Type 0
-    LeavesOnly (selecting ones) = ⊥
-    LeavesOnly (calling task entry) = ⊥
-    LeavesOnly (starting object reading) = ⊥
-    LeavesOnly next = Unit {0}
-
-    -- of one that is at no choice
-    pub acting_as : (n : ℕ) (m : Option ℕ) (x : Coming) → LeavesBy (own_of n c) m x → LeavesOnly x → end_moves plan (barrier_at code) m n d ≡ acting_moves plan (barrier_at code) x n d
-    acting_as n m (simply w) h single = ap (λ o. end_moves plan (barrier_at code) o n d) h
-    acting_as n m ending h single =
-        ap (λ o. end_moves plan (barrier_at code) o n d) h
-        ∙ ap (λ (o : Own). end_moves plan (barrier_at code) (master_left_by (construct_left o)) n d) (sym (own_seen n))
-    acting_as n m (selecting ones) h single = absurd single
-    acting_as n m (calling task entry) h single = absurd single
-    acting_as n m (starting object reading) h single = absurd single
-
     each_first : (numbers : List ℕ) (n : ℕ) → has_some (each_or_one plan (barrier_at code) numbers n) ≡ true
     each_first [] n = refl
     each_first (a ∷ more) n = refl
-
-    -- one at a choice always has some
-    pub acting_first : (n : ℕ) (m : Option ℕ) (x : Coming) → LeavesBy (own_of n c) m x → IsNoStart x → has_some (end_moves plan (barrier_at code) m n d) ≡ has_some (acting_moves plan (barrier_at code) x n d)
-    acting_first n m (simply w) h no_start = ap has_some (acting_as n m (simply w) h tt)
-    acting_first n m ending h no_start = ap has_some (acting_as n m ending h tt)
-    acting_first n m (selecting ones) h no_start =
-        ap (λ o. has_some (end_moves plan (barrier_at code) o n d)) h
-        ∙ sym (each_first (alternatives_of plan (barrier_at code) (filter (has_queue plan (barrier_at code) n d) ones)) n)
-    acting_first n m (calling None entry) h no_start = ap (λ o. has_some (end_moves plan (barrier_at code) o n d)) h
-    acting_first n m (calling (Some task) entry) h no_start =
-        ap (λ o. has_some (end_moves plan (barrier_at code) o n d)) h
-        ∙ sym (each_first (alternatives_of plan (barrier_at code) (open_alternatives (own_of task d) entry)) n)
-    acting_first n m (starting object reading) h no_start = absurd no_start
 
     first_only : (b : Bool) (n : ℕ) → b ≡ has_some (only plan (barrier_at code) b n)
     first_only true n = refl
@@ -270,6 +250,21 @@ module _ (plan : Plan) (code : Flat) where
     -- one at a call of an object has one where no action is in the way
     pub starts_first : (n object : ℕ) (reading : Bool) → not (in_the_way n reading (object_of object c)) ≡ has_some (acting_moves plan (barrier_at code) (starting object reading) n d)
     starts_first n object reading = first_only (not (in_the_way n reading (object_of object c))) n
+
+    ends_first : (m : Option ℕ) (n : ℕ) → may_leave m c ≡ has_some (end_moves plan (barrier_at code) m n d)
+    ends_first None n = refl
+    ends_first (Some master) n = sym (closable_seen master) ∙ first_only (Closable master d) n
+
+    -- one at a choice always has some
+    pub leaves_first : (n : ℕ) (x : Coming) → IsNoStart x → leaves_freely (own_of n c) x c ≡ has_some (acting_moves plan (barrier_at code) x n d)
+    leaves_first n (simply w) no_start = refl
+    leaves_first n ending no_start =
+        ends_first (master_left_by (construct_left (own_of n c))) n
+        ∙ ap (λ (o : Own). has_some (end_moves plan (barrier_at code) (master_left_by (construct_left o)) n d)) (sym (own_seen n))
+    leaves_first n (selecting ones) no_start = sym (each_first (alternatives_of plan (barrier_at code) (filter (has_queue plan (barrier_at code) n d) ones)) n)
+    leaves_first n (calling None entry) no_start = refl
+    leaves_first n (calling (Some task) entry) no_start = sym (each_first (alternatives_of plan (barrier_at code) (open_alternatives (own_of task d) entry)) n)
+    leaves_first n (starting object reading) no_start = absurd no_start
 
     pub some_only : (b : Bool) (n : ℕ) → b ≡ has_some (alone_if b n)
     some_only true n = refl
@@ -303,9 +298,6 @@ module _ (plan : Plan) (code : Flat) where
     single_moves (selecting ones) n single = absurd single
     single_moves (calling task entry) n single = absurd single
     single_moves (starting object reading) n single = only_single (not (in_the_way n reading (object_of object d))) n
-
-    pub leaves_some : (n master : ℕ) → alone_if (Closable master c) n ≡ end_moves plan (barrier_at code) (Some master) n d
-    leaves_some n master = only_if (Closable master c) n ∙ ap (λ b. only plan (barrier_at code) b n) (sym (closable_seen master))
 
     -- the time of a call
     abbrev pub listed : Option ℕ → List ℕ

@@ -56,6 +56,7 @@ module _ (Free Other : Type 0) (free : Free) (other : Other) (plan : Plan) (s r 
   last_alike (Concerns (among.CallObject v entry form otherwise) next) x y = differs free
   last_alike (Concerns (among.Operation v unit) next) x y = differs free
   last_alike (Concerns among.Delay next) x y = tt
+  last_alike (Concerns among.Abort next) x y = tt
   last_alike (Concerns (among.Accept entry region body) next) x y = tt
   last_alike (Concerns (among.Select has_else own offers) next) x y = differs other
   last_alike (Continues f behind inside) x y = tt

@@ -156,6 +156,7 @@ module _ (loops : ℕ) (at : Pos) (s : Scene) (raise : Raise) where
   raised_in_part (Concerns (among.CallObject v entry form otherwise) next) is = cc
   raised_in_part (Concerns (among.Operation v unit) next) is = cc
   raised_in_part (Concerns among.Delay next) is = cc
+  raised_in_part (Concerns among.Abort next) is = cc
   raised_in_part (Concerns (among.Accept entry region body) next) is = cc
   raised_in_part (Concerns (among.Select has_else own offers) next) is = cc
   raised_in_part (Continues f behind inside) is = cc
@@ -188,6 +189,7 @@ module _ (loops : ℕ) (at : Pos) (s : Scene) (raise : Raise) where
   raised_here (Concerns (among.CallObject v entry form otherwise) next) is other = refl
   raised_here (Concerns (among.Operation v unit) next) is other = refl
   raised_here (Concerns among.Delay next) is other = refl
+  raised_here (Concerns among.Abort next) is other = refl
   raised_here (Concerns (among.Accept entry region body) next) is other = refl
   raised_here (Concerns (among.Select has_else own offers) next) is other = refl
   raised_here (Continues f behind inside) is other = cc

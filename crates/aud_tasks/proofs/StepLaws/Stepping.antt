@@ -5,6 +5,7 @@ use Rattle.aud_typed.specs.Tree.{Plan}
 use Rattle.aud_meaning.specs.Configuration.{TaskAt, All, Own}
 use Rattle.aud_meaning.specs.Parts.{nobody, own_of, owns}
 use Rattle.aud_meaning.specs.declared.state.Pending.{Pending}
+use Rattle.aud_meaning.specs.declared.state.Status.TheVariants.{Running}
 use Rattle.aud_meaning.specs.declared.state.Move.{Move}
 use Rattle.aud_meaning.specs.Run as run
 use Rattle.aud_meaning.specs.Run.{step_of, step_with, turn_taken}
@@ -18,6 +19,7 @@ use Rattle.aud_code.specs.Places.{Spot}
 use Rattle.aud_code.specs.Sound.{IsStart}
 use Rattle.aud_code.specs.Starts.{AreSpots, IsPlace, IsSpot}
 use Rattle.aud_state.specs.Fast.{scene}
+use Rattle.aud_state.specs.Reads.{IsPlain}
 use Rattle.aud_tasks.specs.Acting.{ActsPending, ActsSo, DoesAsked}
 use Rattle.aud_tasks.specs.Turning.{turn_in}
 
@@ -26,6 +28,15 @@ pub task_there : {A : Type 0} (xs : List A) (n : ℕ) → n < length xs → (x :
 task_there [] n within = absurd (omega (arith, within))
 task_there (x ∷ xs) zero within = (x, refl)
 task_there (x ∷ xs) (suc n) within = task_there xs n (omega (arith, within))
+
+runs_there : (ts : List (TaskAt Spot)) (n : ℕ) → (slice_index_or (owns ts) n nobody).status ≡ Running → n < length ts
+runs_there [] n is = absurd cc
+runs_there (t ∷ ts) zero is = omega arith
+runs_there (t ∷ ts) (suc n) is = let h = runs_there ts n is in omega (arith, h)
+
+-- one that runs is there
+pub plain_there : (n : ℕ) (c : All Spot) → IsPlain (own_of n c) → n < length c.tasks
+plain_there n c plain = runs_there c.tasks n plain.runs
 
 no_task : {A : Type 0} (xs : List A) (n : ℕ) → length xs ≤ n → slice_get xs n ≡ None
 no_task [] n past = refl

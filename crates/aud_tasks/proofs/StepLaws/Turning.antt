@@ -1,38 +1,24 @@
 -- What a task does at its next step, by what is read of it.
 use Rattle.std.proofs.Common.{◌≡◌, ℕ, Option, Some, None, Bool, true, false, if◌then◌else◌, ◌||◌, refl, ap, ◌∙◌}
-use Rattle.std.specs.Prelude.{is_some}
 use Rattle.aud_typed.specs.Tree.{Plan}
 use Rattle.aud_meaning.specs.declared.state.Serving.{Serving}
 use Rattle.aud_meaning.specs.declared.state.Status.{Status}
 use Rattle.aud_meaning.specs.declared.state.Status.TheVariants.{Running}
 use Rattle.aud_meaning.specs.Configuration.{Own, TaskAt, All}
-use Rattle.aud_meaning.specs.Control.{Coming, Seen, simply, ending, selecting, calling, starting}
+use Rattle.aud_meaning.specs.Control.{Seen}
 use Rattle.aud_meaning.specs.Parts.{own_of}
-use Rattle.aud_meaning.specs.Run.{at_once, construct_left, is_bound, is_leave, master_left_by, seen, turn_by, under_way, usual}
+use Rattle.aud_meaning.specs.Run.{at_once, seen, turn_by, under_way, usual}
 use Rattle.aud_code.specs.Places.{Spot}
 use Rattle.aud_code.specs.Flat.{Flat, barrier_at, flat_controls}
-use Rattle.aud_state.specs.Reads.{IsPlain, LeavesBy}
+use Rattle.aud_state.specs.Reads.{IsPlain}
 use Rattle.aud_tasks.specs.declared.turn.Turn.TheVariants.{Acting}
-use Rattle.aud_tasks.specs.Turning.{bound_in, deferred_in, seen_in, turn_in, turned, usual_in}
+use Rattle.aud_abort.specs.Deferring.{deferred_in}
+use Rattle.aud_tasks.specs.Turning.{seen_in, turn_in, turned, usual_in}
 use Rattle.aud_tasks.proofs.ViewLaws.Seen.{turn_law}
 
 pub or_if : (a b : Bool) → (a || b) ≡ (if a then true else b)
 or_if true b = refl
 or_if false b = refl
-
-leave_is : (o : Own) → is_some (master_left_by (construct_left o)) ≡ is_leave ending o
-leave_is o = by (master_left_by (construct_left o)) refl
-  where
-    by : (m : Option ℕ) → master_left_by (construct_left o) ≡ m → is_some (master_left_by (construct_left o)) ≡ is_leave ending o
-    by None is = rw is refl
-    by (Some master) is = rw is refl
-
-pub leaves_is : (o : Own) (m : Option ℕ) (x : Coming) → LeavesBy o m x → is_some m ≡ is_leave x o
-leaves_is o m (simply w) h = ap is_some h
-leaves_is o m ending h = ap is_some h ∙ leave_is o
-leaves_is o m (selecting ones) h = ap is_some h
-leaves_is o m (calling task entry) h = ap is_some h
-leaves_is o m (starting object reading) h = ap is_some h
 
 module _ (plan : Plan) (code : Flat) (n : ℕ) (c : All Spot) where
   abbrev o : Own
@@ -46,9 +32,6 @@ module _ (plan : Plan) (code : Flat) (n : ℕ) (c : All Spot) where
 
   pub turn_as : (s : Status) → o.status ≡ s → turn_in plan code n c ≡ turn_by plan (barrier_at code) s n t d
   turn_as s is = turn_law plan code n c ∙ ap (λ x. turn_by plan (barrier_at code) x n t d) is
-
-  pub bound_as : (s : Status) → o.status ≡ s → bound_in plan code n c ≡ is_bound plan (barrier_at code) s n t d
-  bound_as s is = ap (λ x. is_bound plan (barrier_at code) x n t d) is
 
   pub usual_as : (servicing : Option Serving) (s : Status) → o.serving ≡ servicing → o.status ≡ s → usual_in plan code n c ≡ usual plan (barrier_at code) servicing s n t d
   usual_as servicing s serves is = ap (λ x. usual plan (barrier_at code) x o.status n t d) serves ∙ ap (λ x. usual plan (barrier_at code) servicing x n t d) is

@@ -1,4 +1,4 @@
--- The plain program of a program in memory, which has as yet nothing of abort.
+-- The plain program of a program in memory.
 use Rattle.std.specs.Prelude.{ℕ, ◌+◌, ◌*◌, List, [], ◌∷◌, ◌++◌, map, Option, Some, None, Vec}
 use Rattle.std.specs.Global.{Global}
 use Rattle.aud_typed.specs.declared.program.IntegerExpression.{IntegerExpression, Number, Variable, Element', Unary', Chain', Count, Row_of-Operation, end_of-Operation, more_of-Operation}
@@ -23,7 +23,7 @@ use Rattle.aud_typed.specs.declared.program.Calling.{Calling}
 use Rattle.aud_typed.specs.declared.program.Callee.{Callee}
 use Rattle.aud_typed.specs.declared.program.Callee.TheVariants as callee
 use Rattle.aud_typed.specs.declared.program.TextExpression.{TextExpression, Literal, Image, ImageTruth, Join', NewLine, Row_of-TextExpression, end_of-TextExpression, more_of-TextExpression}
-use Rattle.aud_typed.specs.declared.program.Statement.{Statement, Declare, DeclareArray, DeclareTasks, DeclareObject, Activated, Null, Assign, Put, If', While', Loop', For', Exit, Raise, RaiseAgain, Block', Return, ReturnValue, ProcedureCall, OwnEntryCall, OperationCall, EntryCall', Delay, Accept', Select', Row_of-Statement, end_of-Statement, more_of-Statement}
+use Rattle.aud_typed.specs.declared.program.Statement.{Statement, Declare, DeclareArray, DeclareTasks, DeclareObject, Activated, Null, Assign, Put, If', While', Loop', For', Exit, Raise, RaiseAgain, Block', Return, ReturnValue, ProcedureCall, OwnEntryCall, OperationCall, EntryCall', Delay, Accept', Select', Abort, Row_of-Statement, end_of-Statement, more_of-Statement}
 use Rattle.aud_typed.specs.declared.program.Tasks.{Tasks}
 use Rattle.aud_typed.specs.declared.program.IfStatement.{IfStatement, IfStatement', out-IfStatement, Row_of-Arm, end_of-Arm, more_of-Arm}
 use Rattle.aud_typed.specs.declared.program.Arm.{Arm}
@@ -138,6 +138,9 @@ plain_call called entry arguments form = record { callee = plain_callee called; 
 abbrev pub plain_values : List ValueExpression → List tree.ValueExpression
 plain_values es = map plain_value es
 
+abbrev pub plain_task_names : List TaskName → List tree.TaskName
+plain_task_names ts = map plain_task ts
+
 abbrev mutual
   pub plain_text : TextExpression → tree.TextExpression
   plain_text (Literal text) = tree.literal text
@@ -181,6 +184,7 @@ abbrev mutual
   plain_statement (Delay at e) = tree.delay at (plain_delay e)
   plain_statement (Accept' _ s) = plain_accept s
   plain_statement (Select' _ at _ alternatives _ otherwise) = tree.select at (plain_alternatives alternatives) (part_of (plain_row otherwise))
+  plain_statement (Abort at ts) = tree.abort at (plain_task_names ts.items)
 
   pub plain_row : {n : _} → Row_of-Statement n → List tree.Statement
   plain_row end_of-Statement = []

@@ -1,5 +1,5 @@
 -- Each variable that is read or assigned has been elaborated (RM 3.3.1, 8.3), and each table, exception and procedure is there: the
--- items that a typed program names are there. As yet it is said of programs with the statements below, and of no others. It is not said
+-- items that a typed program names are there. It is not said
 -- that a call of an entry has as many arguments as its accepts or its body have formals, nor that the object in a cell is of the
 -- declaration that has the operation or entry which is called.
 use Rattle.std.specs.Prelude.{◌≡◌, ℕ, suc, ◌+◌, ◌-◌, max, ◌<◌, ◌≤◌, List, [], ◌∷◌, ◌++◌, length, slice_index_or, Option, None, Some, nat_eq, false}
@@ -7,7 +7,7 @@ use Rattle.aud_typed.specs.declared.program.Variable.{Variable}
 use Rattle.aud_typed.specs.declared.program.ArrayAt.{ArrayAt}
 use Rattle.aud_typed.specs.declared.program.Exception.{Exception}
 use Rattle.aud_typed.specs.declared.program.Exception.TheVariants.{Predefined, Declared}
-use Rattle.aud_typed.specs.Tree.{Argument, by_value, by_copy, Calling, UnitPlan, TaskPlan, ObjectPlan, EntryPlan, IntegerExpression, number, variable, element, unary, binary, count, TaskName, single, indexed, DelayExpression, milliseconds, seconds, CallForm, plainly, conditionally, timed, Callee, of_task, of_object, EntryCall, BooleanExpression, truth, stored, negation, relation, comparison, logical, and_then, or_else, callable, terminated, ValueExpression, whole, boolean, Reference, scalar, component, TextExpression, literal, image, image_truth, join, new_line, Tasks, Statement, sequence, declare, declare_array, declare_tasks, declare_object, activated, activate, null, assign, put, if_then, plain_loop, while_loop, for_loop, exit, return, return_value, raising, raising_again, block, procedure_call, own_entry_call, operation_call, entry_call, delay, accept, select, Doing, without_do, with_do, Alternatives, no_alternatives, accepting, delaying, terminating, Part, nothing, some, Handlers, no_handlers, handler, Body, body, Shown, as_whole, as_truth, as_wholes, as_truths, hidden, Named, Plan, Program}
+use Rattle.aud_typed.specs.Tree.{Argument, by_value, by_copy, Calling, UnitPlan, TaskPlan, ObjectPlan, EntryPlan, IntegerExpression, number, variable, element, unary, binary, count, TaskName, single, indexed, DelayExpression, milliseconds, seconds, CallForm, plainly, conditionally, timed, Callee, of_task, of_object, EntryCall, BooleanExpression, truth, stored, negation, relation, comparison, logical, and_then, or_else, callable, terminated, ValueExpression, whole, boolean, Reference, scalar, component, TextExpression, literal, image, image_truth, join, new_line, Tasks, Statement, sequence, declare, declare_array, declare_tasks, declare_object, activated, activate, null, assign, put, if_then, plain_loop, while_loop, for_loop, exit, return, return_value, raising, raising_again, block, procedure_call, own_entry_call, operation_call, entry_call, delay, accept, select, abort, Doing, without_do, with_do, Alternatives, no_alternatives, accepting, delaying, terminating, Part, nothing, some, Handlers, no_handlers, handler, Body, body, Shown, as_whole, as_truth, as_wholes, as_truths, hidden, Named, Plan, Program}
 
 -- how many names of an open frame are elaborated, and how many cells they have
 pub record Elaborated : Type 0 where
@@ -97,6 +97,10 @@ TextScoped (image e) scope = IntegerScoped e scope
 TextScoped (image_truth e) scope = BooleanScoped e scope
 TextScoped (join x y) scope = TextScoped x scope × TextScoped y scope
 TextScoped new_line scope = Unit {0}
+
+abbrev pub AllTasksScoped : List TaskName → Scope → Type 0
+AllTasksScoped [] scope = Unit {0}
+AllTasksScoped (t ∷ ts) scope = TaskScoped t scope × AllTasksScoped ts scope
 
 -- in the innermost frame
 abbrev pub in_innermost : (Elaborated → Elaborated) → Scope → Scope
@@ -286,7 +290,7 @@ module _ (plan : Plan) (entries : List Entry) where
     StatementScoped (delay at e) scope = DelayScoped e scope
     StatementScoped (accept at n d) scope = (n < length plan.entries) × DoingScoped d scope
     StatementScoped (select at offered p) scope = AlternativesScoped offered scope × PartScoped p scope
-    StatementScoped _ scope = ⊥
+    StatementScoped (abort at ts) scope = AllTasksScoped ts scope
 
     pub PartScoped : Part → Scope → Type 0
     PartScoped nothing scope = Unit {0}

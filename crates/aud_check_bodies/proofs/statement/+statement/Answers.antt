@@ -25,7 +25,7 @@ use Rattle.aud_typed.specs.declared.program.CallForm as memory_form
 use Rattle.aud_typed.specs.declared.program.DelayExpression.{DelayExpression}
 use Rattle.aud_typed.specs.Tree as tree
 use Rattle.aud_typed.specs.Tree.{CallForm}
-use Rattle.aud_syntax.specs.Ties.View.{plain_expression, plain_name, plain_maybe, plain_parameter, plain_declarations, plain_statement, plain_statements, plain_others, arm_list, guarded_list, handler_list, plain_choices, plain_delay, plain_done, plain_accept, plain_other, plain_alternative as plain_source_alternative, plain_select_statement, plain_selected_call, plain_if_statement, plain_loop_statement, plain_block_statement, plain_body, plain_formal, plain_declaration, plain_procedure, plain_task_body, plain_protected_body, operation_body_list, plain_operation_body}
+use Rattle.aud_syntax.specs.Ties.View.{plain_expression, plain_name, plain_maybe, plain_parameter, plain_declarations, plain_statement, plain_statements, plain_others, arm_list, guarded_list, handler_list, plain_choices, plain_delay, plain_names, plain_abort, plain_done, plain_accept, plain_other, plain_alternative as plain_source_alternative, plain_select_statement, plain_selected_call, plain_if_statement, plain_loop_statement, plain_block_statement, plain_body, plain_formal, plain_declaration, plain_procedure, plain_task_body, plain_protected_body, operation_body_list, plain_operation_body}
 use Rattle.aud_syntax.proofs.Opened.{operation_body_open, protected_body_open, accept_open, select_open, selected_call_open, accept_alternative_open, delay_alternative_open, or_delay_open, or_else_open, if_open, loop_open, block_open, body_open, procedure_open, task_body_open}
 use Rattle.aud_syntax.proofs.Written.{dropped}
 use Rattle.aud_typed.specs.Ties.View.{plain_statement as plain_typed_statement, plain_statements as plain_typed_statements, plain_body as plain_typed_body, plain_unit as plain_typed_unit, plain_integer, plain_boolean, plain_delay as plain_typed_delay, plain_form, statements_in}
@@ -43,6 +43,7 @@ use Rattle.aud_check_bodies.specs.Tasks.{with_bodies, without_bodies, body_unit,
 use Rattle.aud_check_bodies.specs.Formals.{Formals, checked_formals}
 use Rattle.aud_check_bodies.specs.Accepts.{TypedAccept, accept_formals, accept_faults, accepted, number_of, with_accepted}
 use Rattle.aud_check_bodies.specs.Delays.{delay_at, delay_faults, typed_delay}
+use Rattle.aud_check_bodies.specs.Aborts.{abort_faults, typed_abort}
 use Rattle.aud_check_bodies.specs.Selects.{TypedAlternative, accepts, delays, terminates, alternatives_of, form_of}
 use Rattle.aud_check_bodies.specs.Ties.DeclarativePart.{Declares, Enters}
 use Rattle.aud_names.specs.Ties.Regions.{plain_region, plain_regions, plain_place, names_in}
@@ -231,6 +232,16 @@ statement-returns-in-SelectCall t c =
     let place = c.args.within.scope.now in
     let opened : plain_statement c.args.statement.now ≡ plain_selected_call c.deref-in-SelectCall.result.now = ap plain_statement c.in-SelectCall.is ∙ selected_call_open c.in-SelectCall.node ∙ ap plain_selected_call (sym c.deref-in-SelectCall.ensures) in
     subst (λ z. Checks (in_box plain_typed_statement) c.selected_call.result c.args.faults.now c.selected_call.new.faults (plain_tables c.selected_call.new.tables) (checked_statement z around place (plain_tables c.args.tables.now))) (sym opened) c.selected_call.ensures
+
+pub statement-returns-in-Abort : goal.statement-returns-in-Abort
+statement-returns-in-Abort t c =
+    let around = around_of c.args.within in
+    let place = c.args.within.scope.now in
+    let tables = plain_tables c.args.tables.now in
+    let x = c.deref-in-Abort.result.now in
+    let opened : plain_statement c.args.statement.now ≡ plain_abort x = ap plain_statement c.in-Abort.is ∙ ap plain_abort (sym c.deref-in-Abort.ensures) in
+    subst (λ z. Checks (in_box plain_typed_statement) c.abort.result c.args.faults.now c.abort.new.faults tables (checked_statement z around place tables)) (sym opened)
+    (checks_leaf (in_box plain_typed_statement) c.abort.result c.args.faults.now c.abort.new.faults tables (abort_faults (plain_name x.first) (plain_names x.others.items) place) (typed_abort x.at (plain_name x.first) (plain_names x.others.items) place) c.abort.ensures)
 
 -- accepts
 

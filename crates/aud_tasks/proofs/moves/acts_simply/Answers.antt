@@ -1,5 +1,9 @@
 use Rattle.aud_tasks.proofs.MoveLaws.Moving.{runs_simply}
+use Rattle.aud_tasks.proofs.StepLaws.Stepping.{plain_there}
 use Rattle.aud_tasks.proofs.moves.acts_simply.Goals as goal
+
+pub is_simple-requires : goal.is_simple-requires
+is_simple-requires c = plain_there c.args.task c.args.state.now (c.is_plain.ensures c.if-is_plain.true)
 
 pub returns-then-is_plain : goal.returns-then-is_plain
 returns-then-is_plain c = λ simple plan.

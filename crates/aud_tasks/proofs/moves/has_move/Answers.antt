@@ -6,7 +6,7 @@ use Rattle.aud_meaning.specs.Tasks.{eligible}
 use Rattle.aud_code.specs.Flat.{barrier_at, flat_controls}
 use Rattle.aud_tasks.specs.declared.turn.Turn.TheVariants.{Acting, Cancelling, Closing, Completing, Expiring, Resting, Serving, Withdrawing}
 use Rattle.aud_tasks.specs.Moving.{alone_if, has_some, picked}
-use Rattle.aud_tasks.proofs.MoveLaws.Moving.{closes, only_if, serve_some, some_only, turn_told}
+use Rattle.aud_tasks.proofs.MoveLaws.Moving.{acting_there, closes, only_if, serve_some, some_only, turn_told}
 use Rattle.aud_tasks.proofs.MoveLaws.Resting.{rests_none}
 use Rattle.aud_tasks.proofs.moves.has_move.Goals as goal
 
@@ -76,6 +76,11 @@ returns-in-Cancelling c =
     ∙ ap has_some
     (c.can_be_cancelled.ensures plan code
     ∙ sym (turn_told plan code s n c.turn_of.result Cancelling (c.turn_of.ensures plan) c.in-Cancelling.is))
+
+pub can_act-requires : goal.can_act-requires
+can_act-requires c =
+    let plan = (plain_program c.args.compiled.program.now).plan in
+    acting_there plan c.args.compiled.code.now c.args.state.now c.args.task c.turn_of.result (c.turn_of.ensures plan) c.in-Acting.is
 
 pub returns-in-Acting : goal.returns-in-Acting
 returns-in-Acting c =

@@ -3,7 +3,7 @@ use Rattle.aud_meaning.specs.Parts.{own_of, sight_of}
 use Rattle.aud_tasks.specs.declared.turn.Turn.TheVariants.{Acting}
 use Rattle.aud_tasks.specs.Turning.{coming_in}
 use Rattle.aud_tasks.proofs.ViewLaws.Shown.{leaves_as, leaves_not}
-use Rattle.aud_tasks.proofs.StepLaws.Turning.{leaves_is}
+use Rattle.aud_abort.proofs.Bound.{leaves_is}
 use Rattle.aud_tasks.proofs.status.leaves.Goals as goal
 
 pub returns-in-Acting : goal.returns-in-Acting

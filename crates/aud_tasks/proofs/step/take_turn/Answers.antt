@@ -17,8 +17,8 @@ returns-in-Resting-clause-takes c = λ t there. ap (λ (u : Turn). turn_taken (g
 pub returns-in_ok-close-in-Closing-clause-takes : goal.returns-in_ok-close-in-Closing-clause-takes
 returns-in_ok-close-in-Closing-clause-takes c = λ t there. c.in_ok-close-in-Closing.ensures (plain_program c.args.compiled.program.now).plan (barrier_at c.args.compiled.code.now) ∙ ap (λ (u : Turn). turn_taken (going c.args.compiled.code.now) (plain_program c.args.compiled.program.now).plan (barrier_at c.args.compiled.code.now) c.args.compiled.limits (turned (plain_program c.args.compiled.program.now).plan c.args.compiled.code.now c.args.taken.task c.args.state.now u) (asked_at c.args.compiled.code.now t.own.pending (scene c.args.taken.task c.args.state.now) t.control) c.args.taken c.args.state.now) (sym c.in-Closing.is)
 
-pub returns-in_ok-complete-in-Completing-clause-takes : goal.returns-in_ok-complete-in-Completing-clause-takes
-returns-in_ok-complete-in-Completing-clause-takes c = λ t there. c.in_ok-complete-in-Completing.ensures (plain_program c.args.compiled.program.now).plan (barrier_at c.args.compiled.code.now) ∙ ap (λ (u : Turn). turn_taken (going c.args.compiled.code.now) (plain_program c.args.compiled.program.now).plan (barrier_at c.args.compiled.code.now) c.args.compiled.limits (turned (plain_program c.args.compiled.program.now).plan c.args.compiled.code.now c.args.taken.task c.args.state.now u) (asked_at c.args.compiled.code.now t.own.pending (scene c.args.taken.task c.args.state.now) t.control) c.args.taken c.args.state.now) (sym c.in-Completing.is)
+pub returns-in_ok-complete_abnormal-in-Completing-clause-takes : goal.returns-in_ok-complete_abnormal-in-Completing-clause-takes
+returns-in_ok-complete_abnormal-in-Completing-clause-takes c = λ t there. c.in_ok-complete_abnormal-in-Completing.ensures (plain_program c.args.compiled.program.now).plan (barrier_at c.args.compiled.code.now) ∙ ap (λ (u : Turn). turn_taken (going c.args.compiled.code.now) (plain_program c.args.compiled.program.now).plan (barrier_at c.args.compiled.code.now) c.args.compiled.limits (turned (plain_program c.args.compiled.program.now).plan c.args.compiled.code.now c.args.taken.task c.args.state.now u) (asked_at c.args.compiled.code.now t.own.pending (scene c.args.taken.task c.args.state.now) t.control) c.args.taken c.args.state.now) (sym c.in-Completing.is)
 
 pub returns-in-Expiring-clause-takes : goal.returns-in-Expiring-clause-takes
 returns-in-Expiring-clause-takes c = λ t there.

@@ -1,0 +1,2 @@
+pub mod Bound
+pub mod Withdrawals
