@@ -1,5 +1,0 @@
-// The tests of all crates.
-#![tactic(auto)]
-
-#[cfg(test)]
-mod tests;
