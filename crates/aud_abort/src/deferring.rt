@@ -8,7 +8,7 @@ use aud_code::sound_code::SoundCode;
 use aud_meaning::state::Status;
 use aud_state::state::State;
 
-/// Whether an abnormal task goes on for now: it has an action under way, or is bound otherwise.
+/// Whether abort is deferred: an action of the task is under way, its call is selected, or it is at the end of a master.
 pub fn is_deferred(state: &State, code: &SoundCode, n: usize) -> bool
     ensures { (plan : Plan) → result ≡ deferred_in plan code.now n state.now }
 {
