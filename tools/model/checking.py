@@ -114,9 +114,9 @@ class Check:
         tasks, objects = {}, {}
         for declaration in declarations:
             if isinstance(declaration, Task):
-                tasks[declaration.name] = self.task(declaration, within)
+                self.await_body(tasks, declaration, self.task, within)
             elif isinstance(declaration, Protected):
-                objects[declaration.name] = self.protected(declaration, within)
+                self.await_body(objects, declaration, self.protected, within)
             elif isinstance(declaration, TaskBody):
                 self.task_body(declaration, self.declared(tasks, declaration.name, Task(declaration.name, False, [])), within)
             elif isinstance(declaration, ProtectedBody):
@@ -125,6 +125,13 @@ class Check:
                 self.declaration(declaration, within)
         for name in [*tasks, *objects]:
             self.fault(37, name.place)
+
+    def await_body(self, units, declaration, declare, within):
+        """Of two declarations of one name the second is illegal (RM 8.3(26)), so that a body completes the first (RM 3.11.1)."""
+        is_first = declaration.name not in within.region.names
+        known = declare(declaration, within)
+        if is_first:
+            units[declaration.name] = known
 
     def declared(self, units, name, nothing):
         """That of this name, which has its body now."""
