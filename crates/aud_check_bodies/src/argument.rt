@@ -4,6 +4,8 @@ ghost use Rattle.std.specs.Prelude.{◌≡◌, IfOk, Some, None};
 ghost use Rattle.aud_syntax.specs.Ties.View.{plain_expression, plain_expressions, plain_relation, plain_simple, plain_term, plain_factor, plain_primary, plain_name};
 ghost use Rattle.aud_fault.specs.Least.{noted};
 ghost use Rattle.aud_check_bodies.specs.Arguments.{primary_name, factor_name, term_name, unsigned_name, simple_name, relation_name, expression_name, variable_faults, unnamed_faults, copied_faults, object_reference, meaning_reference, reference_of, is_copied_in, copied_to, copied, passed_faults, passed, are_as_many, all_passed_faults, all_passed};
+ghost use Rattle.aud_typed.specs.Ties.View.{plain_integer};
+ghost use Rattle.aud_typing.specs.Expressions.{element_of};
 ghost use Rattle.aud_typing.specs.Ties.Entities.{plain_entity};
 ghost use Rattle.aud_check_bodies.specs.Ties.Passed.{plain_found, plain_target, plain_passed, plain_all_passed, one_more_passed};
 ghost use Rattle.aud_typing.specs.Ties.Typing.{Leaves};
@@ -12,13 +14,13 @@ use crate::assignment::{check_target, target_base};
 use crate::declaration::{given_value, known};
 use crate::formal::is_in;
 use aud_fault::fault::Least;
-use aud_names::behind::Made;
+use aud_names::behind::{Made, both};
 use aud_names::names::{Meaning, NamedParameter, Object, Parameter, Scope};
 use aud_names::rules::{Base, base_asked, not_a_variable, right_type};
 use aud_syntax::tree::{Expression, Factor, Mode, Name, Primary, Relation, Simple, Term};
 use aud_text::place::Pos;
 use aud_typed::program::{Argument, Reference, Subtype};
-use aud_typing::entity::{Denoting, Entity, name_denotes};
+use aud_typing::entity::{Denoting, Element, Entity, name_denotes};
 use aud_typing::expression::{arguments, expression, expression_at};
 use aud_typing::typed::base_of;
 
@@ -126,17 +128,33 @@ fn meaning_reference(meaning: Meaning) -> Option<Reference>
     }
 }
 
+fn element_reference(element: Element) -> Option<Reference>
+    ensures { plain_target result ≡ reference_of (element_of element.array
+        (plain_integer element.index) element.subtype) }
+{
+    let Element {
+        array,
+        index,
+        subtype,
+    } = element;
+    let Some(subtype) = subtype else {
+        drop(index);
+        return None;
+    };
+    Some(Reference::Element(array, index, subtype))
+}
+
 /// What is copied back to, if that is a variable.
 pub fn reference_of(entity: Entity) -> Option<Reference>
     ensures { plain_target result ≡ reference_of (plain_entity entity) }
 {
     match entity {
-        Entity::Nothing | Entity::Task(_, _) => None,
         Entity::Whole(meaning) => meaning_reference(meaning),
-        Entity::Element(element) => match element.subtype {
-            None => None,
-            Some(subtype) => Some(Reference::Element(element.array, element.index, subtype)),
-        },
+        Entity::Element(element) => element_reference(element),
+        other => {
+            drop(other);
+            None
+        }
     }
 }
 
@@ -196,6 +214,7 @@ fn unnamed(
 {
     let typed = expression(e, scope, faults)?;
     let base = base_of(&typed);
+    drop(typed);
     check_unnamed(parameter.subtype, expression_at(e), base, faults);
     Ok(None)
 }
@@ -234,16 +253,16 @@ fn with_next(all: Option<Vec<Argument>>, next: Option<Argument>) -> Made<Option<
     ensures { IfOk result (λ more. plain_all_passed more
         ≡ one_more_passed (plain_all_passed all) (plain_passed next)) }
 {
-    match all {
-        None => Ok(None),
-        Some(mut all) => match next {
-            None => Ok(None),
-            Some(next) => {
-                all.push(next)?;
-                Ok(Some(all))
-            }
-        },
-    }
+    let Some(mut all) = all else {
+        drop(next);
+        return Ok(None);
+    };
+    let Some(next) = next else {
+        drop(all);
+        return Ok(None);
+    };
+    all.push(next)?;
+    Ok(Some(all))
 }
 
 /// The arguments of a call with these formals: notes their faults, and answers what is passed, if
@@ -262,15 +281,22 @@ pub fn all_passed(
     let mut rest = args;
     for formal in profile {
         match rest.split_first() {
-            None => return Ok(None),
+            None => {
+                drop(all);
+                return Ok(None);
+            }
             Some((next, others)) => {
-                all = with_next(all, passed(formal.parameter, next, scope, faults)?)?;
+                let (before, more) = both(all, passed(formal.parameter, next, scope, faults))?;
+                all = with_next(before, more)?;
                 rest = others;
             }
         }
     }
     match rest.first() {
         None => Ok(all),
-        Some(_) => Ok(None),
+        Some(_) => {
+            drop(all);
+            Ok(None)
+        }
     }
 }

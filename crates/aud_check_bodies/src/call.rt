@@ -38,7 +38,7 @@ use aud_typing::typed::{Typed, wants, with_text};
 use std::alloc::Global;
 
 /// What is called of the program: a procedure, by its unit, a procedure of a protected object, or an entry.
-#[derive(Clone, Copy, PartialEq, Eq)]
+#[derive(Clone, Copy)]
 pub enum Callee {
     Procedure(usize),
     Operation(Operation),
@@ -122,16 +122,16 @@ fn check_callee(denoted: Denoted, args: &[Expression], last: &Typed, faults: &mu
 }
 
 // What a procedure that puts out is left as; a faulty call is left as a null statement.
-fn put_out(alloc: Global, builtin: Builtin, at: Pos, last: Typed) -> Made<TypedStatement>
-    ensures { IfOk result (λ typed. plain_typed_statement typed
+fn put_out(alloc: Global, builtin: Builtin, at: Pos, last: Typed) -> Left<TypedStatement>
+    ensures { IfOk result (λ typed. plain_typed_statement typed.value
         ≡ put_out builtin at (plain_typed last)) }
 {
     match builtin {
-        Builtin::Put => Ok(put(at, last)),
+        Builtin::Put => boxed(alloc, put(at, last)),
         Builtin::PutLine => put_line(alloc, at, last),
         Builtin::NewLine => {
             drop(last);
-            Ok(TypedStatement::Put(at, TextExpression::NewLine))
+            boxed(alloc, TypedStatement::Put(at, TextExpression::NewLine))
         }
     }
 }
@@ -145,26 +145,26 @@ fn put(at: Pos, last: Typed) -> TypedStatement
     }
 }
 
-fn put_line(alloc: Global, at: Pos, last: Typed) -> Made<TypedStatement>
-    ensures { IfOk result (λ typed. plain_typed_statement typed
+fn put_line(alloc: Global, at: Pos, last: Typed) -> Left<TypedStatement>
+    ensures { IfOk result (λ typed. plain_typed_statement typed.value
         ≡ put_out builtin.PutLine at (plain_typed last)) }
 {
     match last {
         Typed::Text(text) => {
             let line = with_text(alloc, text, TextExpression::NewLine)?;
-            Ok(TypedStatement::Put(at, line))
+            boxed(alloc, TypedStatement::Put(at, line))
         }
-        other => Ok(null_for(at, other)),
+        other => boxed(alloc, null_for(at, other)),
     }
 }
 
-fn called(alloc: Global, meaning: Option<Meaning>, at: Pos, last: Typed) -> Made<TypedStatement>
-    ensures { IfOk result (λ typed. plain_typed_statement typed
+fn called(alloc: Global, meaning: Option<Meaning>, at: Pos, last: Typed) -> Left<TypedStatement>
+    ensures { IfOk result (λ typed. plain_typed_statement typed.value
         ≡ called meaning at (plain_typed last)) }
 {
     match meaning {
         Some(Meaning::Builtin(builtin)) => put_out(alloc, builtin, at, last),
-        _ => Ok(null_for(at, last)),
+        _ => boxed(alloc, null_for(at, last)),
     }
 }
 
@@ -339,9 +339,7 @@ fn other_call(
 {
     let last = Box::into_inner(arguments(name, scope, faults)?);
     check_callee(denoted, last_args(name), &last, faults);
-    let alloc = scope.alloc();
-    let statement = called(alloc, denoted.meaning, name.first.ident.at, last)?;
-    boxed(alloc, statement)
+    called(scope.alloc(), denoted.meaning, name.first.ident.at, last)
 }
 
 /// A call of what a name denotes, which is this of the program, if it is anything of it.

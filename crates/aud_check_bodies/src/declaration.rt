@@ -16,7 +16,7 @@ ghost use Rattle.aud_names.specs.Ties.Regions.{plain_region, plain_place, names_
 use crate::task::{task_rows, tasks};
 use aud_fault::fault::Least;
 use aud_names::array::{Kind, Scalar, bound, cells_of, new_meaning, row_between};
-use aud_names::behind::Made;
+use aud_names::behind::{Made, both};
 use aud_names::names::{Meaning, Object, Region, Scope};
 use aud_names::rules::{
     base_asked, declared_once, name_not_declared, right_type, wrong_kind_of_name,
@@ -229,7 +229,9 @@ fn marked<'x>(
         ≡ marked mark.now (names_in names.now) (plain_place region.now outer.now)) }
 {
     let scope = Scope::within(region, outer, names)?;
-    Ok(scope.visible(&mark.name))
+    let meaning = scope.visible(&mark.name);
+    drop(scope);
+    Ok(meaning)
 }
 
 // The type of tasks that a mark names.
@@ -279,11 +281,11 @@ fn scalars(
 {
     let scope = Scope::within(&part.region, outer, names)?;
     let subtype = subtype_mark(mark, &scope, faults);
-    let value = initial_value(initial, subtype, &scope, faults)?;
+    let value = initial_value(initial, subtype, &scope, faults);
     drop(scope);
     let region = &mut part.region;
     let kind = Kind::Scalar(Scalar { subtype, constant });
-    declare(names, kind, region, faults)?;
+    let (value, ()) = both(value?, declare(names, kind, region, faults))?;
     elaborate(names.first.at, value, region, &mut part.elaborations)
 }
 

@@ -14,7 +14,7 @@ ghost use Rattle.aud_names.specs.Names.{body_frame};
 use crate::formal::formals;
 use crate::tables::Tables;
 use aud_fault::fault::Least;
-use aud_names::behind::Made;
+use aud_names::behind::{Made, both};
 use aud_names::entries::EntryName;
 use aud_names::names::{NamedParameter, Region, frame_within};
 use aud_names::rules::declared_once;
@@ -171,8 +171,10 @@ pub fn name_entries(names: Vec<EntryName>, region: &mut Region) -> Made<Vec<usiz
     ensures region { OnOk result (plain_region region.new
         ≡ naming names.items (plain_region region.old)) }
 {
-    let mut names = names;
-    let numbers = numbers_of(&names, region.alloc)?;
-    region.entries.append(&mut names)?;
+    let numbers = numbers_of(&names, region.alloc);
+    let (mut names, numbers) = both(names, numbers)?;
+    let appended = region.entries.append(&mut names);
+    drop(names);
+    let (numbers, ()) = both(numbers, appended)?;
     Ok(numbers)
 }

@@ -65,7 +65,9 @@ fn marked<'x>(
         (plain_region region.now) (plain_regions outer.now)) formal.now.subtype.at)) }
 {
     let scope = within_formal(own, region, outer, &formal.names)?;
-    Ok(subtype_mark(&formal.subtype, &scope, faults))
+    let subtype = subtype_mark(&formal.subtype, &scope, faults);
+    drop(scope);
+    Ok(subtype)
 }
 
 // Adds a formal.
@@ -141,7 +143,9 @@ pub fn result_mark<'x>(
         (plain_regions outer.now))) }
 {
     let scope = Scope::behind_formals(own, region, outer)?;
-    Ok(subtype_mark(mark, &scope, faults))
+    let subtype = subtype_mark(mark, &scope, faults);
+    drop(scope);
+    Ok(subtype)
 }
 
 /// Declares formals in a region, which lies within these (RM 6.1): notes their faults, and answers what calls and accepts

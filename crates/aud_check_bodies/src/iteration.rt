@@ -55,7 +55,9 @@ pub fn bounds(parameter: &LoopParameter, scope: &Scope<'_>, faults: &mut Least) 
 {
     let inner = scope.within_one(&parameter.name)?;
     let low = bound(&parameter.low, &inner, faults)?;
-    both(low, bound(&parameter.high, &inner, faults))
+    let high = bound(&parameter.high, &inner, faults);
+    drop(inner);
+    both(low, high)
 }
 
 /// A loop that is left by an exit, if at all.

@@ -12,7 +12,7 @@ ghost use Rattle.aud_names.specs.Rules.{declared_once};
 ghost use Rattle.aud_names.specs.Ties.Regions.{plain_region, plain_regions, plain_place, names_in};
 ghost use Rattle.aud_typing.specs.Ties.Typing.{Leaves};
 ghost use Rattle.aud_check_bodies.specs.Declarations.{subtype_meant, initial_faults, initial_value};
-ghost use Rattle.aud_check_bodies.specs.Objects.{object_part, with_object_parts, operation_formals, signature_faults, signature as plain_signature_of, function_signature, head_faults, function_faults, with_entry, with_procedure, with_function, one_operation, operation_faults, declared_operations, operations_faults, with_all_parts, parts_twice, component_meant, component_values_faults, component_values, component_parts, declared_components, components_faults, one_item, item_faults, declared_items, items_faults, with_object, parts_declared, parts_faults, checked_protected, without_object_bodies, without_part_bodies, object_matched, body_object, object_tables};
+ghost use Rattle.aud_check_bodies.specs.Objects.{object_part, with_object_parts, operation_formals, signature_faults, signature as plain_signature_of, function_signature, head_faults, function_faults, with_entry, with_procedure, with_function, one_operation, operation_faults, declared_operations, operations_faults, with_all_parts, parts_twice, component_meant, component_values_faults, component_values, component_parts, declared_components, components_faults, one_item, item_faults, declared_items, items_faults, hidden_items, with_object, parts_declared, parts_faults, checked_protected, without_object_bodies, without_part_bodies, object_matched, body_object, object_tables};
 ghost use Rattle.aud_check_bodies.specs.Tables.{next_object};
 ghost use Rattle.aud_check_bodies.specs.Ties.DeclarativePart.{Declares, plain_initial};
 ghost use Rattle.aud_check_bodies.specs.Ties.Entries.{plain_formals};
@@ -22,6 +22,7 @@ ghost use Rattle.aud_check_bodies.specs.Ties.Tables.{plain_tables};
 use crate::declaration::{DeclarativePart, add_symbol, initial_value, subtype_mark};
 use crate::formal::{formals, result_mark};
 use crate::tables::Tables;
+use crate::within::regions_within;
 use aud_fault::fault::Least;
 use aud_names::array::Kind;
 use aud_names::awaited::{AwaitedObject, AwaitedPart};
@@ -46,7 +47,7 @@ pub struct ObjectParts {
 }
 
 /// Of which object something is a part, and whether it stands behind `private`.
-#[derive(Clone, Copy, PartialEq, Eq)]
+#[derive(Clone, Copy)]
 struct Of {
     object: usize,
     is_private: bool,
@@ -112,7 +113,7 @@ fn operation_profile(
         (operation_formals ident.now (map plain_formal list.now) (plain_region own.now)
         (plain_region around.now ∷ plain_regions outer.now)).profile }
 {
-    let rest = Scope::new(around, outer).regions()?;
+    let rest = regions_within(around, outer)?;
     let (regions, mut region) = frame_within(own, &rest)?;
     formals(Some(ident), list, &regions, &mut region, faults)
 }
@@ -175,7 +176,7 @@ fn function_head(
 {
     let (ident, list, mark) = head;
     declared_once(ident, &own.symbols, faults);
-    let rest = Scope::new(around, outer).regions()?;
+    let rest = regions_within(around, outer)?;
     let (regions, region) = frame_within(own, &rest)?;
     signature(ident, list, mark, &regions, region, faults)
 }
@@ -364,8 +365,9 @@ fn values_of(
 {
     let scope = Scope::within(own, rest, names)?;
     let subtype = subtype_mark(mark, &scope, faults);
-    let values = initial_values(names, initial, subtype, &scope, faults)?;
-    Ok((subtype, values))
+    let values = initial_values(names, initial, subtype, &scope, faults);
+    drop(scope);
+    Ok((subtype, values?))
 }
 
 // Declares a component in its object's region.
@@ -446,7 +448,7 @@ fn declare_components(
         (names_in names.now) mark.now (plain_initial initial.entry) (plain_regions outer.now)
         (plain_parts parts.old around.old tables.now))) }
 {
-    let rest = Scope::new(&*around, outer).regions()?;
+    let rest = regions_within(&*around, outer)?;
     let (subtype, mut values) = values_of(names, mark, initial, &parts.own, &rest, faults)?;
     drop(rest);
     let kind = PartKind::Component(subtype);
@@ -558,6 +560,38 @@ fn elaborate_object(
     Ok(())
 }
 
+// Declares what an object of this number declares, in regions that lie within these.
+#[tactic(auto, using(aud_typing::proofs::Notes::noted_append))]
+fn declare_all(
+    number: usize,
+    node: &ProtectedDeclaration,
+    outer: &[&Region],
+    parts: &mut ObjectParts,
+    around: &mut Region,
+    tables: &mut Tables,
+    faults: &mut Least,
+) -> Made<()>
+    ensures declared { OnOk result (plain_parts parts.new around.new tables.new
+        ≡ declared_items number (hidden_items (plain_private node.now.private_items))
+        (plain_regions outer.now) (declared_operations number
+        (map plain_operation node.now.operations.items) (plain_regions outer.now)
+        (plain_parts parts.old around.old tables.old))) }
+    ensures noted { OnOk result (faults.new ≡ noted faults.old (operations_faults number
+        (map plain_operation node.now.operations.items) (plain_regions outer.now)
+        (plain_parts parts.old around.old tables.old)
+        ++ items_faults number (hidden_items (plain_private node.now.private_items))
+        (plain_regions outer.now) (declared_operations number
+        (map plain_operation node.now.operations.items) (plain_regions outer.now)
+        (plain_parts parts.old around.old tables.old)))) }
+{
+    let list = &node.operations;
+    declare_operations(number, list, outer, parts, around, tables, faults)?;
+    if let Some(items) = &node.private_items {
+        declare_items(number, items, outer, parts, around, tables, faults)?;
+    }
+    Ok(())
+}
+
 // What an object of this number declares, whose declaration stands in a region that lies within these, and what is found behind its name.
 #[tactic(auto, using(aud_typing::proofs::Notes::noted_append))]
 fn parts_of(
@@ -579,34 +613,24 @@ fn parts_of(
 {
     let alloc = region.alloc;
     let instance = body_instance(number, Access::Outside, region)?;
+    let regions = regions_within(region, outer)?;
     let mut around = around_object(&node.name.name, instance, region, outer)?;
     let mut parts = ObjectParts {
         own: object_frame(region, outer)?,
         values: Vec::new(alloc),
         entries: Vec::new(alloc),
     };
-    let regions = Scope::new(region, outer).regions()?;
-    let list = &node.operations;
-    declare_operations(
+    let declared = declare_all(
         number,
-        list,
+        node,
         &regions,
         &mut parts,
         &mut around,
         tables,
         faults,
-    )?;
-    if let Some(items) = &node.private_items {
-        declare_items(
-            number,
-            items,
-            &regions,
-            &mut parts,
-            &mut around,
-            tables,
-            faults,
-        )?;
-    }
+    );
+    drop(regions);
+    let ((parts, around), ()) = both((parts, around), declared)?;
     Ok((parts, around))
 }
 
@@ -618,6 +642,23 @@ fn name_parts(around: Region, region: &mut Region) -> Made<()>
     let mut around = around;
     region.parts.append(&mut around.parts)?;
     Ok(())
+}
+
+// Adds an object of this number, and what is found behind its name, to the region that declares it.
+fn name_all(
+    once: bool,
+    ident: &Ident,
+    number: usize,
+    around: Region,
+    region: &mut Region,
+) -> Made<()>
+    requires { once ≡ not (is_declared ident.now.name region.now.symbols.entries) }
+    ensures { OnOk result (plain_region region.new ≡ with_object_parts around.parts.items
+        (with_object ident.now number (plain_region region.old))) }
+{
+    let named = name_object(once, ident, number, region);
+    let (around, ()) = both(around, named)?;
+    name_parts(around, region)
 }
 
 /// Declares a protected object, and what it declares (RM 9.4).
@@ -640,16 +681,18 @@ pub fn declare_protected(
     let once = declared_once(&node.name, &part.region.symbols, faults);
     let (parts, around) = parts_of(number, node, &part.region, outer, tables, faults)?;
     right_name_at_end(&node.name.name, &node.end_name, faults);
-    name_object(once, &node.name, number, &mut part.region)?;
-    name_parts(around, &mut part.region)?;
+    let named = name_all(once, &node.name, number, around, &mut part.region);
+    let (parts, ()) = both(parts, named)?;
     let ObjectParts {
         own,
         values,
         entries,
     } = parts;
     drop(own);
-    elaborate_object(node.at, number, values, &mut part.elaborations)?;
-    let name = node.name.name.try_clone(alloc)?;
+    let elaborated = elaborate_object(node.at, number, values, &mut part.elaborations);
+    let (entries, ()) = both(entries, elaborated)?;
+    let name = node.name.name.try_clone(alloc);
+    let (entries, name) = both(entries, name)?;
     tables.keep_object(name, entries)
 }
 

@@ -13,7 +13,7 @@ ghost use Rattle.aud_check_bodies.specs.Ties.Tables.{plain_tables};
 
 use crate::formal::{formals, result_mark};
 use crate::tables::Tables;
-use crate::within::Leaves;
+use crate::within::{Leaves, regions_within};
 use aud_fault::fault::Least;
 use aud_names::awaited::{AwaitedPart, index_of_unit};
 use aud_names::behind::{Made, both};
@@ -277,9 +277,11 @@ fn barrier(
         return Ok(None);
     };
     let region = barrier_region(formals, own, outer)?;
-    let regions = Scope::new(own, outer).regions()?;
-    let typed = condition(e, &Scope::new(&region, &regions), faults)?;
-    Ok(Some(Box::into_inner(typed)))
+    let regions = regions_within(own, outer)?;
+    let scope = Scope::new(&region, &regions);
+    let typed = condition(e, &scope, faults);
+    drop(scope);
+    Ok(Some(Box::into_inner(typed?)))
 }
 
 // Puts it into the tables, where it is that of an entry which waits for its body.

@@ -89,7 +89,9 @@ impl Tables {
     {
         let names = names_of(region)?;
         if number < self.regions.len() {
-            self.regions[number] = names;
+            drop(replace(&mut self.regions[number], names));
+        } else {
+            drop(names);
         }
         Ok(())
     }
@@ -154,8 +156,8 @@ impl Tables {
         ensures { OnOk result (plain_tables self.new
             ≡ entry_kept name profile.items (plain_tables self.old)) }
     {
-        self.entries.push(Entry { name, body: None })?;
         self.entry_profiles.push(profile)?;
+        self.entries.push(Entry { name, body: None })?;
         Ok(())
     }
 
@@ -169,13 +171,12 @@ impl Tables {
         ensures { OnOk result (plain_tables self.new
             ≡ protected_entry_kept name profile.items (plain_tables self.old)) }
     {
-        let body = Some(EntryBody {
-            unit: self.units.len(),
-            barrier: BooleanExpression::Truth(true),
-        });
-        self.keep_unit(alloc, Vec::new(alloc))?;
-        self.entries.push(Entry { name, body })?;
+        let unit = self.units.len();
         self.entry_profiles.push(profile)?;
+        self.keep_unit(alloc, Vec::new(alloc))?;
+        let barrier = BooleanExpression::Truth(true);
+        let body = Some(EntryBody { unit, barrier });
+        self.entries.push(Entry { name, body })?;
         Ok(())
     }
 

@@ -30,7 +30,7 @@ use aud_typed::program::{Statement, Tasks};
 use std::alloc::{AllocError, Global};
 
 /// What the tasks of each name of a declaration are: their type, and of arrays the lower bound and the length (RM 9.1).
-#[derive(Clone, Copy, PartialEq, Eq)]
+#[derive(Clone, Copy)]
 pub struct Creation {
     pub task_type: usize,
     pub low: i32,
@@ -259,7 +259,7 @@ pub fn without_bodies(awaited: &[Awaited], faults: &mut Least)
 }
 
 /// The numbers of a task's unit and of its type.
-#[derive(Clone, Copy, PartialEq, Eq)]
+#[derive(Clone, Copy)]
 pub struct Numbers {
     pub unit: usize,
     pub task_type: usize,

@@ -1,11 +1,15 @@
 // Where statements and declarations stand.
 
+ghost use Rattle.std.specs.Prelude.{◌≡◌, IfOk};
+ghost use Rattle.aud_names.specs.Ties.Regions.{plain_regions, plain_place};
+
 use crate::labels::Label;
+use aud_names::behind::Made;
 use aud_names::names::{Region, Scope};
 use aud_typed::program::Subtype;
 
 /// What a return would leave (RM 6.5).
-#[derive(Clone, Copy, PartialEq, Eq)]
+#[derive(Clone, Copy)]
 pub enum Leaves {
     /// A task's body, which is not left by one.
     Task,
@@ -37,4 +41,16 @@ pub struct Entering<'s, 'a> {
     pub leaves: Leaves,
     pub accepting: &'s [usize],
     pub of_task: bool,
+}
+
+/// The regions around those of a frame within this one, which lies within those, the next one first. A place is dropped by a
+/// call, and not by its parts' drops at each way out.
+pub fn regions_within<'a>(innermost: &'a Region, outer: &'a [&'a Region]) -> Made<Vec<&'a Region>>
+    ensures { IfOk result (λ regions. plain_regions regions.items
+        ≡ (plain_place innermost.now outer.now).regions) }
+{
+    let scope = Scope::new(innermost, outer);
+    let regions = scope.regions();
+    drop(scope);
+    regions
 }

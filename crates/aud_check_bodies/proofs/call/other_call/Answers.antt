@@ -1,5 +1,5 @@
-use Rattle.std.specs.Prelude.{◌++◌}
-use Rattle.std.proofs.Common.{sym, ap, ◌∙◌}
+use Rattle.std.specs.Prelude.{◌++◌, IfOk}
+use Rattle.std.proofs.Common.{◌≡◌, sym, ap, subst, ◌∙◌}
 use Rattle.aud_text.specs.declared.place.Pos.{Pos}
 use Rattle.aud_syntax.specs.declared.tree.Name.{out-Name}
 use Rattle.aud_syntax.specs.Plain.{Args}
@@ -9,8 +9,8 @@ use Rattle.aud_fault.specs.Least.{noted}
 use Rattle.aud_names.specs.Resolution.{name_ident, last_args}
 use Rattle.aud_typing.specs.Expressions.{Typed, Checked, checked_arguments}
 use Rattle.aud_check_bodies.specs.Calls.{callee_faults, called}
-use Rattle.aud_typing.specs.Ties.Typing.{plain_typed}
-use Rattle.aud_typing.proofs.Notes.{noted_then, leaves_box}
+use Rattle.aud_typing.specs.Ties.Typing.{plain_typed, in_box}
+use Rattle.aud_typing.proofs.Notes.{noted_then, leaves}
 use Rattle.aud_typing.proofs.Opened.{name_begins}
 use Rattle.aud_check_bodies.proofs.call.other_call.Goals as goal
 
@@ -27,4 +27,5 @@ returns c =
     ∙ ap (λ (x : Typed). noted mid (callee_faults d.meaning (last_args n) d.at x)) c.in_ok-arguments.ensures.1 in
     let noted_all = noted_then c.args.faults.now mid c.check_callee.new.faults checked.faults last c.in_ok-arguments.ensures.0 rest in
     let same = ap (λ (x : Typed). called d.meaning (out-Name c.args.name.now).first.ident.at x) c.in_ok-arguments.ensures.1 ∙ ap (λ (p : Pos). called d.meaning p checked.typed) (sym (name_begins c.args.name.now)) in
-    leaves_box plain_statement c.boxed.result c.args.faults.now c.check_callee.new.faults (checked.faults ++ last) c.in_ok-statement.statement (called d.meaning (name_ident n).at checked.typed) noted_all c.boxed.ensures ((rw c.into_inner-last.ensures at c.in_ok-statement.ensures) ∙ same)
+    let made = ap (λ v. called d.meaning (out-Name c.args.name.now).first.ident.at (plain_typed v)) c.into_inner-last.ensures ∙ same in
+    leaves (in_box plain_statement) c.called.result c.args.faults.now c.check_callee.new.faults (checked.faults ++ last) (called d.meaning (name_ident n).at checked.typed) noted_all (subst (λ z. IfOk c.called.result (λ b. plain_statement b.value ≡ z)) made c.called.ensures)

@@ -1,12 +1,14 @@
-use Rattle.std.specs.Prelude.{List, ◌∷◌, [], ◌++◌, map, OnOk}
+use Rattle.std.specs.Prelude.{ℕ, List, ◌∷◌, [], ◌++◌, map, IfOk, OnOk, Vec}
+use Rattle.std.specs.Global.{Global}
 use Rattle.std.proofs.Common.{◌≡◌, ap, subst, ◌∙◌}
 use Rattle.aud_syntax.specs.Ties.View.{plain_operation, plain_private}
 use Rattle.aud_typed.specs.Tree.{declare_object}
-use Rattle.aud_typed.specs.Ties.View.{plain_statements as plain_typed_statements}
+use Rattle.aud_typed.specs.Ties.View.{plain_values, plain_statements as plain_typed_statements}
 use Rattle.aud_names.specs.Names.{Place}
 use Rattle.aud_names.specs.Rules.{declared_once, right_name_at_end}
 use Rattle.aud_names.specs.Ties.Regions.{plain_region, plain_place}
 use Rattle.aud_check_bodies.specs.declared.declaration.DeclarativePart.{DeclarativePart}
+use Rattle.aud_check_bodies.specs.declared.object.ObjectParts.{ObjectParts}
 use Rattle.aud_check_bodies.specs.Objects.{ObjectDeclared, parts_faults, with_object_parts, with_object}
 use Rattle.aud_check_bodies.specs.Tables.{Tables, next_object, object_kept}
 use Rattle.aud_check_bodies.specs.Ties.Objects.{plain_parts}
@@ -36,11 +38,21 @@ returns c =
     let within = parts_faults i.name operations hidden place t in
     let ends = right_name_at_end i.name node.end_name in
     let noted_all = noted_then old f1 new once (within ++ ends) c.declared_once-once.ensures.noted (noted_then f1 f2 new within ends c.in_ok-parts.ensures.noted c.right_name_at_end.ensures) in
-    let region : plain_region c.name_parts.new.region ≡ with_object_parts x.around.parts (with_object i (next_object t) (plain_region first.region)) =
-    c.in_ok-name_parts.ensures ∙ ap (with_object_parts around.parts.items) (c.in_ok-name_object.ensures ∙ ap (λ n. with_object i n (plain_region first.region)) c.next_object-number.ensures) in
-    let next : DeclarativePart = record { region = c.name_parts.new.region; elaborations = c.elaborate_object.new.elaborations } in
-    let elaborated : plain_typed_statements next.elaborations.items ≡ plain_typed_statements first.elaborations.items ++ declare_object node.at (next_object t) x.values ∷ [] =
-    c.in_ok-elaborate_object.ensures ∙ ap (λ n. plain_typed_statements first.elaborations.items ++ declare_object node.at n x.values ∷ []) c.next_object-number.ensures in
+    let b = c.in_ok-parts-2 in
+    let e = c.in_ok-entries in
+    let k = c.in_ok-entries-2 in
+    let own = c.name_all-named.new.region in
+    let region : plain_region own ≡ with_object_parts x.around.parts (with_object i (next_object t) (plain_region first.region)) =
+    subst (λ r. OnOk r (plain_region own ≡ with_object_parts around.parts.items (with_object i number (plain_region first.region)))) b.ensures.next c.name_all-named.ensures ∙ ap (λ n. with_object_parts around.parts.items (with_object i n (plain_region first.region))) c.next_object-number.ensures in
+    let all = c.elaborate_object-elaborated.new.elaborations in
+    let next : DeclarativePart = record { region = own; elaborations = all } in
+    let elaborated : plain_typed_statements all.items ≡ plain_typed_statements first.elaborations.items ++ declare_object node.at (next_object t) x.values ∷ [] =
+    subst (λ r. OnOk r (plain_typed_statements all.items ≡ plain_typed_statements first.elaborations.items ++ declare_object node.at number (plain_values b.parts.values.items) ∷ [])) e.ensures.next c.elaborate_object-elaborated.ensures
+    ∙ ap (λ (p : ObjectParts). plain_typed_statements first.elaborations.items ++ declare_object node.at number (plain_values p.values.items) ∷ []) b.ensures.first
+    ∙ ap (λ n. plain_typed_statements first.elaborations.items ++ declare_object node.at n x.values ∷ []) c.next_object-number.ensures in
     let end = plain_tables c.keep_object.new.self in
-    let kept : OnOk c.keep_object.result (end ≡ object_kept i.name x.entries x.tables) = subst (λ l. OnOk c.keep_object.result (end ≡ object_kept l x.entries x.tables)) c.in_ok-name.ensures c.keep_object.ensures in
+    let cloned : k.name ≡ i.name = subst (λ r. IfOk r (λ l. l ≡ i.name)) k.ensures.next c.try_clone-name.ensures in
+    let listed : k.entries.items ≡ x.entries = ap (λ (v : Vec ℕ Global). v.items) (k.ensures.first ∙ e.ensures.first) ∙ ap (λ (p : ObjectParts). p.entries.items) b.ensures.first in
+    let kept : OnOk c.keep_object.result (end ≡ object_kept i.name x.entries x.tables) =
+    subst (λ l. OnOk c.keep_object.result (end ≡ object_kept l x.entries x.tables)) cloned (subst (λ l. OnOk c.keep_object.result (end ≡ object_kept k.name l x.tables)) listed c.keep_object.ensures) in
     declares_object c.keep_object.result old new outer first next t end node.at i operations hidden node.end_name x c.in_ok-parts.ensures.declared noted_all region elaborated kept
