@@ -14,7 +14,7 @@ ROOTS = ("aud_solo.specs.Solo", "aud_lines.specs.Requests", "aud_lines.specs.Tex
 # crates whose words only tie contracts together, or say what a desk and a connection promise
 TYING = ("aud_scoped", "aud_code", "aud_over", "aud_state", "aud_layout", "aud_gen", "aud_exc", "aud_expr", "aud_masters", "aud_rendezvous", "aud_select", "aud_protected", "aud_abort", "aud_sequential", "aud_tasks", "aud_machine", "aud_examples", "aud_desk", "aud_connection")
 TYING_MODULES = ("aud_hall.specs.Told",)
-USE = re.compile(r"^use Rattle\.(aud_\w+)\.specs\.([\w.]+?)(?:\.\{.*\}| as \w+)$", re.MULTILINE)
+USE = re.compile(r"^(?:pub )?use Rattle\.(aud_\w+)\.specs\.([\w.]+?)(?:\.\{.*\}| as \w+)$", re.MULTILINE)
 
 
 def path_of(module):
@@ -51,7 +51,7 @@ def sources(modules):
     found = set()
     for module in modules:
         with open(path_of(module), encoding="utf-8") as it:
-            for crate, name in re.findall(r"^use Rattle\.(aud_\w+)\.specs\.(?:declared|contracts)\.(\w+)\.", it.read(), re.MULTILINE):
+            for crate, name in re.findall(r"^(?:pub )?use Rattle\.(aud_\w+)\.specs\.(?:declared|contracts)\.(\w+)\.", it.read(), re.MULTILINE):
                 found.add(os.path.join(TOP, crate, "src", name + ".rt"))
     return sorted(found)
 

@@ -16,9 +16,8 @@ use Rattle.aud_meaning.specs.Listings.{view}
 use Rattle.aud_meaning.proofs.Limits.Steps.{limits_law}
 use Rattle.aud_meaning.proofs.Counts.{run_moves, run_stays, run_full, run_cut, more_moves, no_moves}
 use Rattle.std.proofs.lemmas.Option.{same_Some}
-use Rattle.aud_tasks.specs.declared.run.Ran.{Ran}
 use Rattle.aud_machine.specs.Shown.{Shown, program_in}
-use Rattle.aud_machine.specs.Shows.{Shows, IfShows, Did, RunsFrom, Takes}
+use Rattle.aud_machine.specs.Shows.{Ran, Shows, IfShows, Did, RunsFrom, Takes}
 use Rattle.aud_debug.specs.declared.lines.Lines.{Lines}
 use Rattle.aud_debug.specs.declared.listing.Listing.{Listing}
 use Rattle.aud_debug.specs.Listed.{listed}

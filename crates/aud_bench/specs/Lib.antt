@@ -1,3 +1,4 @@
+pub mod Listings
 pub mod Size
 pub mod Loading
 pub mod Alone

@@ -8,8 +8,8 @@ ghost use Rattle.aud_bench.specs.Ties.Sameness.{same_requests};
 
 use crate::choices::Choices;
 use crate::wait::Wait;
-use aud_debug::lines::Lines;
-use aud_debug::listing::Listing;
+pub use aud_debug::lines::Lines;
+pub use aud_debug::listing::Listing;
 use aud_meaning::state::State;
 use aud_text::name::Name;
 use aud_text::place::Pos;

@@ -9,10 +9,8 @@ use Rattle.aud_meaning.specs.Listings.{move_lines, move_lines_of, moves_by_enabl
 use Rattle.aud_meaning.specs.Run.{Turn, has_ended, moves, moves_at, moves_by, moves_from, seen, turn, turn_moves}
 use Rattle.aud_code.specs.Places.{Spot}
 use Rattle.aud_code.specs.Flat.{Flat, barrier_at, flat_controls}
-use Rattle.aud_tasks.specs.Turning.{seen_in}
-use Rattle.aud_tasks.proofs.MoveLaws.Moving.{many}
-use Rattle.aud_tasks.proofs.Running.Whose.{AreOf, moves_of}
-use Rattle.aud_tasks.proofs.ViewLaws.Seen.{none_seen}
+use Rattle.aud_machine.specs.Tasking.{seen_in}
+use Rattle.aud_machine.proofs.Tasking.{AreOf, many, moves_of, none_seen}
 use Rattle.aud_debug.specs.Ties.Rows.{each_line, move_line}
 use Rattle.aud_debug.proofs.Tasked.{one_seen}
 

@@ -9,9 +9,8 @@ use Rattle.aud_meaning.specs.Listings.{task_lines}
 use Rattle.aud_meaning.specs.Run.{seen}
 use Rattle.aud_code.specs.Places.{Spot}
 use Rattle.aud_code.specs.Flat.{Flat, barrier_at, flat_controls}
-use Rattle.aud_tasks.specs.Turning.{seen_in}
-use Rattle.aud_tasks.proofs.MoveLaws.Moving.{many}
-use Rattle.aud_tasks.proofs.ViewLaws.Seen.{none_seen, seen_law}
+use Rattle.aud_machine.specs.Tasking.{seen_in}
+use Rattle.aud_machine.proofs.Tasking.{many, none_seen, seen_law}
 use Rattle.aud_debug.specs.Ties.Rows.{task_line}
 
 abbrev seen_or : Option (TaskAt Seen) → TaskAt Seen

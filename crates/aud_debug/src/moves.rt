@@ -19,11 +19,11 @@ use crate::lines::Lines;
 use crate::names::push_task;
 use crate::page::Page;
 use crate::words::step_word;
+use aud_machine::coming::shown_step;
+use aud_machine::compiled::Compiled;
 use aud_machine::machine::Machine;
 use aud_meaning::state::Move;
 use aud_state::state::State;
-use aud_tasks::coming::shown_step;
-use aud_tasks::compiled::Compiled;
 use aud_text::digits::push_decimal;
 use std::alloc::{AllocError, Global};
 
@@ -36,7 +36,7 @@ pub(crate) fn moves(machine: &Machine, alloc: Global) -> Result<Lines, AllocErro
 {
     let state = machine.parts();
     let compiled = machine.compiled();
-    let moves = aud_tasks::moves::moves(state, alloc, compiled)?;
+    let moves = aud_machine::moves::moves(state, alloc, compiled)?;
     let mut page = Page::new(alloc);
     push_moves(&mut page, state, compiled, &moves)?;
     Ok(page.into_lines())

@@ -15,10 +15,10 @@ ghost use Rattle.aud_debug.specs.Ties.Rows.{calls_on, entry_lines, owner_name, o
 use crate::lines::Lines;
 use crate::names::{number_of, push_name};
 use crate::page::Page;
+use aud_machine::compiled::Compiled;
 use aud_machine::machine::Machine;
 use aud_meaning::state::Owner;
 use aud_state::state::State;
-use aud_tasks::compiled::Compiled;
 use aud_text::digits::push_decimal;
 use std::alloc::{AllocError, Global};
 

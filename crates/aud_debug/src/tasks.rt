@@ -19,11 +19,11 @@ use crate::lines::Lines;
 use crate::names::push_task;
 use crate::page::Page;
 use crate::words::status_word;
+use aud_machine::coming::shown_step;
+use aud_machine::compiled::Compiled;
 use aud_machine::machine::Machine;
+use aud_machine::status::{is_abnormal, status_of};
 use aud_state::state::State;
-use aud_tasks::coming::shown_step;
-use aud_tasks::compiled::Compiled;
-use aud_tasks::status::{is_abnormal, status_of};
 use aud_text::digits::push_decimal;
 use std::alloc::{AllocError, Global};
 

@@ -2,10 +2,10 @@
 
 ghost use Rattle.std.specs.Prelude.{◌≡◌};
 ghost use Rattle.aud_meaning.specs.Listings.{word};
-ghost use Rattle.aud_tasks.specs.Shown.{words_of};
+ghost use Rattle.aud_machine.specs.Tasking.{words_of};
 
+use aud_machine::status::Shown;
 use aud_meaning::state::StepKind;
-use aud_tasks::status::Shown;
 
 /// The word of a status.
 pub(crate) fn status_word(status: Shown) -> &'static [u8]

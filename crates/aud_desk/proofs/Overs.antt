@@ -13,7 +13,7 @@ use Rattle.aud_bench.proofs.Sessions.{alone_front}
 use Rattle.aud_hall.specs.Numbered.{IsFront}
 use Rattle.aud_hall.specs.Told.{AreAnswers}
 use Rattle.aud_hall.proofs.Lists.{two_fronts, front_rest}
-use Rattle.aud_hall.proofs.Seats.{front_more}
+pub use Rattle.aud_hall.proofs.Seats.{front_more}
 use Rattle.aud_desk.specs.Passed.{is_over, IsGot}
 
 last_at : (answers : List Answer) (n : ℕ) (a : Answer) → n + 1 ≡ length answers → slice_get answers n ≡ Some a → is_over answers ≡ tells_memory a

@@ -7,7 +7,7 @@ use Rattle.aud_bench.specs.declared.request.Answer.{Answer}
 use Rattle.aud_bench.specs.declared.request.Answer.TheVariants.{Refused}
 use Rattle.aud_bench.specs.Alone.{alone}
 use Rattle.aud_bench.specs.Seen.{told}
-use Rattle.aud_hall.specs.Numbered.{IsFront}
+pub use Rattle.aud_hall.specs.Numbered.{IsFront}
 
 -- the seat, its limits, what was sent, and what was got
 pub record Passed : Type 0 where

@@ -2,7 +2,7 @@
 use Rattle.std.specs.Prelude.{ℕ, zero, suc, ◌+◌, List, [], ◌∷◌, ◌++◌, length, take, Option, Some, None, Bool, true, false, nat_le, nat_lt, ◌&&◌, if◌then◌else◌, codes}
 use Rattle.std.specs.Str.{bytes_eq}
 use Rattle.aud_text.specs.declared.limits.TheConstants.{CHOICE, LINE, LINES, MOVE, REQUEST_BYTES, RUN, SEAT, TASK, WAIT}
-use Rattle.aud_debug.specs.declared.listing.Listing.TheVariants as listing
+use Rattle.aud_bench.specs.Listings as listing
 use Rattle.aud_bench.specs.declared.request.BadRequest.{BadRequest}
 use Rattle.aud_bench.specs.declared.request.BadRequest.TheVariants as bad
 use Rattle.aud_bench.specs.declared.request.Request.{Request}

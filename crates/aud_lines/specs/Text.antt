@@ -6,7 +6,7 @@ use Rattle.aud_text.specs.declared.refusal.Refusal.{Refusal}
 use Rattle.aud_text.specs.Refusal.{number, words}
 use Rattle.aud_text.specs.Raise.{raise_name}
 use Rattle.aud_meaning.specs.Listings.{state_words}
-use Rattle.aud_debug.specs.declared.lines.Lines.{Lines}
+use Rattle.aud_bench.specs.Listings.{Lines}
 use Rattle.aud_bench.specs.declared.request.Raised.{Raised}
 use Rattle.aud_bench.specs.declared.request.Raised.TheVariants.{Predefined, Declared}
 use Rattle.aud_bench.specs.declared.request.Report.{Report}

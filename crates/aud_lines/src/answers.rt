@@ -5,8 +5,7 @@ ghost use Rattle.aud_meaning.specs.Listings.{state_words};
 ghost use Rattle.aud_text.specs.Ties.Adds.{Adds};
 ghost use Rattle.aud_lines.specs.Text.{line_end, head, loaded_text, ran_line, raised_name, report_text, choices_text, clock_text, listed_text, is_open, output_lines, output_text, refusal, refused_text, refused_at_text, answer_text};
 
-use aud_bench::request::{Answer, Raised, Report};
-use aud_debug::lines::Lines;
+use aud_bench::request::{Answer, Lines, Raised, Report};
 use aud_meaning::state::State;
 use aud_text::digits::push_decimal;
 use aud_text::place::Pos;

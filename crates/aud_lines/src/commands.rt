@@ -3,7 +3,7 @@
 ghost use Rattle.std.specs.Prelude.{◌≡◌, ◌≤◌, ℕ, List, [], ◌∷◌, IfOk, IfSome};
 ghost use Rattle.std.specs.Str.{bytes_eq};
 ghost use Rattle.aud_text.specs.declared.limits.TheConstants.{CHOICE, MOVE, SEAT, TASK, WAIT};
-ghost use Rattle.aud_debug.specs.declared.listing.Listing.TheVariants as listing;
+ghost use Rattle.aud_bench.specs.Listings as listing;
 ghost use Rattle.aud_bench.specs.declared.request.BadRequest.TheVariants as bad;
 ghost use Rattle.aud_bench.specs.declared.request.Request.TheVariants as request;
 ghost use Rattle.aud_lines.specs.Ties.Asked.{asked, given};
@@ -12,9 +12,8 @@ ghost use Rattle.aud_lines.specs.Requests.{has_high_byte, line_fault, Command as
 
 use crate::lines::{first_word, number, trimmed};
 use aud_bench::choices::Choices;
-use aud_bench::request::{BadRequest, Request};
+use aud_bench::request::{BadRequest, Listing, Request};
 use aud_bench::wait::Wait;
-use aud_debug::listing::Listing;
 use aud_text::limits::{CHOICE, LINE, LINES, MOVE, RUN, SEAT, TASK, WAIT};
 use std::alloc::{AllocError, Global};
 

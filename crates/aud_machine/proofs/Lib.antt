@@ -1,4 +1,5 @@
 mod Bridges
 mod Counted
+pub mod Tasking
 mod Views
 pub mod Sent

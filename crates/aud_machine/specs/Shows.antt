@@ -8,7 +8,7 @@ use Rattle.aud_meaning.specs.Run.{step, run, state_in}
 use Rattle.aud_code.specs.Places.{Spot}
 use Rattle.aud_layout.specs.Law as code
 use Rattle.aud_over.specs.Over.{forgotten}
-use Rattle.aud_tasks.specs.declared.run.Ran.{Ran}
+pub use Rattle.aud_tasks.specs.declared.run.Ran.{Ran}
 use Rattle.aud_machine.specs.Shown.{Shown, program_in}
 
 -- code under way shows the configuration, and the same is left of it as of the machine; where memory is refused, it shows none from then on

@@ -2,3 +2,6 @@
 #![tactic(auto)]
 
 pub mod machine;
+
+// Who shows a machine asks its tasks.
+pub use aud_tasks::{coming, compiled, moves, status};

@@ -3,3 +3,4 @@ pub mod Giving
 pub mod Hitting
 pub mod Numbered
 pub mod TaskLaws
+pub mod Waking

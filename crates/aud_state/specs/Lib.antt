@@ -1,4 +1,5 @@
 pub mod Aborting
+pub mod Condition
 pub mod View
 pub mod Fast
 pub mod Opening

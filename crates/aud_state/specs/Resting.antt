@@ -6,14 +6,12 @@ use Rattle.aud_meaning.specs.declared.state.Status.TheVariants.{Accepting, Activ
 use Rattle.aud_meaning.specs.Configuration.{All, Call, Own}
 use Rattle.aud_meaning.specs.Parts.{any, no_call, own_of}
 use Rattle.aud_code.specs.Places.{Spot}
+pub use Rattle.aud_state.specs.Condition.{has_come}
 use Rattle.aud_state.specs.Reads.{time_by}
 
 -- it is not abnormal, and services no object
 abbrev pub IsUndisturbed : Own → Type 0
 IsUndisturbed own = (own.abnormal ≡ false) × (own.serving ≡ None)
-
-abbrev pub has_come : ℕ → OpenDelay → Bool
-has_come clock d = nat_le d.time clock
 
 abbrev pub is_later : ℕ → Option ℕ → Bool
 is_later clock None = true

@@ -19,15 +19,12 @@ use Rattle.aud_state.specs.declared.object.Object.{Object}
 use Rattle.aud_state.specs.declared.slot.Slot.{Slot}
 use Rattle.aud_state.specs.declared.slot.Slot.TheVariants.{GivenBack, Kept as IsInBox}
 use Rattle.aud_state.specs.declared.task.Task.{Task}
-use Rattle.aud_state.specs.declared.task.Waits.{Waits}
+pub use Rattle.aud_state.specs.Condition.{plain_waits}
 
 -- all entry calls ever made, and the number of arrivals
 pub record Kept : Type 0 where
   pub calls : List meaning.Call
   pub arrivals : ℕ
-
-abbrev pub plain_waits : Waits → meaning.Waits
-plain_waits w = record { accepts = w.accepts.items; delays = w.delays.items; terminate = w.terminate }
 
 -- of an element of an array with its number
 abbrev pub element_name : List ℕ → Option ℤ → List ℕ
@@ -40,17 +37,17 @@ plain_own t = record nobody {
   name = element_name t.name t.element;
   task_type = t.task_type;
   unit = t.unit;
-  status = t.status;
+  status = t.condition.status;
   raised = t.raised;
   masters = t.masters.items;
   part = t.part;
   activator = t.activator;
   failed = t.failed;
   at = t.at;
-  waits = plain_waits t.waits;
+  waits = t.condition.waits;
   call = t.call;
-  serving = t.serving;
-  abnormal = t.abnormal;
+  serving = t.condition.serving;
+  abnormal = t.condition.abnormal;
   withdraw = t.withdraw;
 }
 

@@ -25,7 +25,7 @@ impl Task {
             chosen alternative (open_alternatives (plain_task self.now).own entry) }
     {
         if self.is_open() {
-            choose(&self.waits.accepts, entry, alternative)
+            choose(self.condition.accepts(), entry, alternative)
         } else {
             None
         }
@@ -37,7 +37,7 @@ impl Task {
             map (λ a. a.alternative) (open_alternatives (plain_task self.now).own entry)) }
     {
         if self.is_open() {
-            let numbers = numbers_for(alloc, &self.waits.accepts, entry)?;
+            let numbers = numbers_for(alloc, self.condition.accepts(), entry)?;
             return Ok(numbers);
         }
         Ok(Vec::new(alloc))
@@ -45,9 +45,9 @@ impl Task {
 
     // Whether it is blocked at accepts that may take a call.
     fn is_open(&self) -> bool
-        ensures { result ≡ (is_accepting self.now.status && not self.now.abnormal) }
+        ensures { result ≡ (is_accepting self.now.condition.status && not self.now.condition.abnormal) }
     {
-        matches!(self.status, Status::Accepting) && !self.abnormal
+        matches!(self.condition.status(), Status::Accepting) && !self.condition.is_abnormal()
     }
 
     // What the accept of this alternative does begins.

@@ -53,7 +53,7 @@ impl Task {
           own = record (plain_task self.old).own { serving = serving };
         } }
     {
-        self.serving = serving;
+        self.condition.serve(serving);
     }
 
     // It withdraws from no object.

@@ -41,8 +41,8 @@ impl Task {
     {
         self.parked.enter(code, unit)?;
         self.parked.set_pending(None);
-        self.status = Status::Running;
-        self.serving = None;
+        self.condition.come_to(Status::Running);
+        self.condition.serve(None);
         Ok(())
     }
 
@@ -81,7 +81,7 @@ impl Task {
     {
         self.parked.close();
         self.parked.set_pending(resumed.pending);
-        self.status = resumed.status;
+        self.condition.come_to(resumed.status);
     }
 }
 

@@ -12,6 +12,7 @@ ghost use Rattle.aud_code.specs.Control.{going};
 ghost use Rattle.aud_sequential.specs.Shown.{plans_of};
 ghost use Rattle.aud_state.specs.View.{element_name, plain_task};
 
+use crate::condition::Condition;
 use crate::state::State;
 use crate::task::{Task, Waits};
 use aud_code::sound_code::SoundCode;
@@ -103,23 +104,21 @@ fn created(
     let name = tasks.name.try_clone(alloc)?;
     let element = element_of(tasks, index);
     let waits = Waits::none(alloc);
+    let condition = Condition::new(Status::Created, waits);
     Ok(Task {
         name,
         element,
         task_type: Some(tasks.task_type),
         unit,
         parked,
-        status: Status::Created,
         raised: None,
         masters,
         part,
         activator: None,
         failed: false,
         at: Pos { line: 0, col: 0 },
-        waits,
+        condition,
         call: 0,
-        serving: None,
-        abnormal: false,
         withdraw: None,
     })
 }

@@ -85,7 +85,7 @@ impl Task {
 
     // The masters on which it depends, unless it is terminated.
     fn masters_held(&self) -> &[usize]
-        ensures { result.now ≡ (if is_terminated self.now.status then [] else self.now.masters.items) }
+        ensures { result.now ≡ (if is_terminated self.now.condition.status then [] else self.now.masters.items) }
     {
         if self.is_terminated() {
             &[]

@@ -59,6 +59,10 @@ impl State {
     pub fn closable(&self, master: usize) -> bool
         ensures { result ≡ Closable master self.now }
     {
+        // Who took the last step goes on in most cases, and so keeps the masters that it depends on.
+        if self.last_mover < self.tasks.len() && self.tasks[self.last_mover].holds(master) {
+            return false;
+        }
         !holds(&self.tasks, master)
     }
 

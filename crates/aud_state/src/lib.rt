@@ -8,6 +8,7 @@ mod alone;
 mod bodies;
 mod calling;
 pub mod calls;
+mod condition;
 mod copies;
 mod creation;
 mod ending;

@@ -16,9 +16,8 @@ impl Task {
           own = blocks status at (plain_waits waits) (plain_task self.old).own;
         } }
     {
-        self.status = status;
+        self.condition.wait(status, waits);
         self.at = at;
-        self.waits = waits;
     }
 
     // It is abnormal.
@@ -27,7 +26,7 @@ impl Task {
           own = record (plain_task self.old).own { abnormal = true };
         } }
     {
-        self.abnormal = true;
+        self.condition.make_abnormal();
     }
 }
 

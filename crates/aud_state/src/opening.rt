@@ -10,6 +10,7 @@ ghost use Rattle.aud_state.specs.Opening.{main_of, opened_main};
 ghost use Rattle.aud_state.specs.View.{plain_task};
 
 use crate::calls::Calls;
+use crate::condition::Condition;
 use crate::state::State;
 use crate::task::{Task, Waits};
 use aud_code::sound_code::SoundCode;
@@ -43,6 +44,7 @@ impl State {
         tasks.push(main)?;
         Ok(State {
             tasks,
+            last_mover: 0,
             progress,
             calls: Calls::new(alloc),
             objects: Vec::new(alloc),
@@ -73,23 +75,21 @@ fn main_task(alloc: Global, parked: Parked, name: &Name) -> Result<Task, AllocEr
 {
     let name = name.try_clone(alloc)?;
     let waits = Waits::none(alloc);
+    let condition = Condition::new(Status::Running, waits);
     Ok(Task {
         name,
         element: None,
         task_type: None,
         unit: 0,
         parked,
-        status: Status::Running,
         raised: None,
         masters: Vec::new(alloc),
         part: 0,
         activator: None,
         failed: false,
         at: Pos { line: 0, col: 0 },
-        waits,
+        condition,
         call: 0,
-        serving: None,
-        abnormal: false,
         withdraw: None,
     })
 }

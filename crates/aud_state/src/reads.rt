@@ -87,7 +87,7 @@ impl State {
     {
         if task < self.tasks.len() {
             let found = &self.tasks[task];
-            return found.status;
+            return found.condition.status();
         }
         Status::Terminated
     }
@@ -111,7 +111,7 @@ impl State {
     {
         if task < self.tasks.len() {
             let found = &self.tasks[task];
-            return &found.waits.delays;
+            return found.condition.delays();
         }
         &[]
     }
@@ -154,7 +154,7 @@ impl State {
     {
         if task < self.tasks.len() {
             let found = &self.tasks[task];
-            return found.serving;
+            return found.condition.serving();
         }
         None
     }
@@ -166,7 +166,7 @@ impl State {
     {
         if task < self.tasks.len() {
             let found = &self.tasks[task];
-            return found.abnormal;
+            return found.condition.is_abnormal();
         }
         false
     }
@@ -296,7 +296,9 @@ impl Task {
     fn is_plain(&self) -> bool
         ensures { IsTrue result → IsPlain (plain_task self.now).own }
     {
-        matches!(self.status, Status::Running) && !self.abnormal && self.serving.is_none()
+        matches!(self.condition.status(), Status::Running)
+            && !self.condition.is_abnormal()
+            && self.condition.serving().is_none()
     }
 
     // The master that its own next step leaves.

@@ -1,15 +1,14 @@
 // Tasks that rest.
 
-ghost use Rattle.std.specs.Prelude.{◌≡◌, IsTrue};
-ghost use Rattle.aud_meaning.specs.Parts.{any};
-ghost use Rattle.aud_state.specs.Resting.{has_come, is_later, IsUndisturbed, Rests, RestsBy};
+ghost use Rattle.std.specs.Prelude.{◌≡◌, ◌<◌, ◌≤◌, ℕ, length, IsTrue};
+ghost use Rattle.aud_state.specs.Resting.{is_later, IsUndisturbed, Rests, RestsBy};
 ghost use Rattle.aud_state.specs.View.{plain_task};
 
 use crate::calls::Calls;
 use crate::reads::cancel_time;
 use crate::state::State;
 use crate::task::Task;
-use aud_meaning::state::{OpenDelay, Status};
+use aud_meaning::state::Status;
 
 impl State {
     /// Whether a task rests: it waits for other tasks, or for a time that has not come. So much one look at it tells; it may have no
@@ -24,24 +23,43 @@ impl State {
         }
         false
     }
+
+    /// The first task from this number on of which one look does not tell that it rests. Where there is none, a number behind all.
+    pub fn next_awake(&self, from: usize) -> usize
+        ensures on { from ≤ result }
+        ensures within { from < result → result ≤ length self.now.tasks }
+        ensures rest { (n : ℕ) → from ≤ n → n < result → Rests n self.now }
+    {
+        let count = self.len();
+        for task in from..count {
+            if !self.rests(task) {
+                return task;
+            }
+        }
+        from.max(count)
+    }
 }
 
 impl Task {
     #[inline(always)]
     fn rests(&self, clock: u64, calls: &Calls) -> bool
         ensures { IsTrue result →
-            RestsBy self.now.status clock calls.now.calls (plain_task self.now).own }
+            RestsBy self.now.condition.status clock calls.now.calls (plain_task self.now).own }
     {
-        match self.status {
-            Status::Created | Status::Terminated => true,
-            Status::Running | Status::Completed => false,
-            Status::Activating => self.is_undisturbed(),
-            Status::Accepting | Status::Delaying => {
-                self.is_undisturbed() && !has_come(&self.waits.delays, clock)
-            }
+        if self.condition.rests(clock) {
+            return true;
+        }
+        match self.condition.status() {
             Status::Calling => {
                 self.is_undisturbed() && is_later(cancel_time(calls.form(self.call)), clock)
             }
+            Status::Created
+            | Status::Running
+            | Status::Activating
+            | Status::Accepting
+            | Status::Delaying
+            | Status::Completed
+            | Status::Terminated => false,
         }
     }
 
@@ -50,16 +68,8 @@ impl Task {
     fn is_undisturbed(&self) -> bool
         ensures { IsTrue result → IsUndisturbed (plain_task self.now).own }
     {
-        !self.abnormal && self.serving.is_none()
+        !self.condition.is_abnormal() && self.condition.serving().is_none()
     }
-}
-
-// Whether the time of one of these delays has come.
-#[inline(always)]
-fn has_come(delays: &[OpenDelay], clock: u64) -> bool
-    ensures { result ≡ any (has_come clock) delays.now }
-{
-    delays.iter().any(|delay| delay.time <= clock)
 }
 
 // Whether a time, if there is one, has not come.

@@ -21,8 +21,10 @@ use std::marker::Model;
 
 /// All tasks ever created, by their numbers, of which the main procedure has the first; what all share, with nothing in the place of
 /// a task's part; all entry calls and all protected objects.
+// The task that took the last step is kept to be looked at first.
 pub struct State {
     pub(crate) tasks: Vec<Task>,
+    pub(crate) last_mover: usize,
     pub(crate) progress: Progress,
     pub(crate) calls: Calls,
     pub(crate) objects: Vec<Object>,
@@ -33,6 +35,7 @@ impl Drop for State {
     fn drop(self) {
         let State {
             tasks: _,
+            last_mover: _,
             progress: _,
             calls: _,
             objects: _,
@@ -213,11 +216,12 @@ impl State {
         }
     }
 
-    /// One step more is taken.
-    pub fn count_step(&mut self)
+    /// One step more is taken, by this task.
+    pub fn count_step(&mut self, task: usize)
         requires { self.old.steps < STEPS }
         ensures { self.new ≡ record self.old { steps = suc self.old.steps } }
     {
+        self.last_mover = task;
         self.progress.count_step();
     }
 }

@@ -14,8 +14,9 @@ ghost use Rattle.aud_meaning.specs.Parts.{any, blocks, depends, is_created, may_
 ghost use Rattle.aud_code.specs.Control.{going};
 ghost use Rattle.aud_state.specs.View.{goes_on_behind, handles_it, plain_task, plain_waits, resumes};
 
+use crate::condition::Condition;
 use aud_code::sound_code::SoundCode;
-use aud_meaning::state::{OpenAccept, OpenDelay, Pending, Serving, Status};
+use aud_meaning::state::{OpenAccept, OpenDelay, Pending, Status};
 use aud_sequential::progress::parked::Parked;
 use aud_text::name::Name;
 use aud_text::place::Pos;
@@ -53,10 +54,10 @@ impl Waits {
     }
 }
 
-/// A task: its name, of an element of an array with its number; its type, its body; what it works on by itself; how far it is; the
-/// exception that completed it; the masters that it depends on; the declarative part that created it; the task that waits for its
-/// activation; whether an activation that it waited for failed; where it is blocked, and at what; its entry call; the servicing of
-/// an object; whether it is abnormal, and the object from which it withdraws.
+/// A task: its name, of an element of an array with its number; its type, its body; what it works on by itself; the exception that
+/// completed it; the masters that it depends on; the declarative part that created it; the task that waits for its activation;
+/// whether an activation that it waited for failed; where it is blocked; how far it is, and at what it is blocked; its entry call,
+/// and the object from which it withdraws.
 #[derive(Drop)]
 pub struct Task {
     pub(crate) name: Name,
@@ -64,17 +65,14 @@ pub struct Task {
     pub(crate) task_type: Option<usize>,
     pub(crate) unit: usize,
     pub(crate) parked: Parked,
-    pub(crate) status: Status,
     pub(crate) raised: Option<Exception>,
     pub(crate) masters: Vec<usize>,
     pub(crate) part: usize,
     pub(crate) activator: Option<usize>,
     pub(crate) failed: bool,
     pub(crate) at: Pos,
-    pub(crate) waits: Waits,
+    pub(crate) condition: Condition,
     pub(crate) call: usize,
-    pub(crate) serving: Option<Serving>,
-    pub(crate) abnormal: bool,
     pub(crate) withdraw: Option<usize>,
 }
 
@@ -85,8 +83,7 @@ impl Task {
           own = runs (plain_task self.old).own;
         } }
     {
-        self.status = Status::Running;
-        self.waits.clear();
+        self.condition.come_free_to(Status::Running);
     }
 
     // It is blocked, at no accept and no delay.
@@ -95,23 +92,22 @@ impl Task {
           own = blocks status at no_waits (plain_task self.old).own;
         } }
     {
-        self.status = status;
+        self.condition.come_free_to(status);
         self.at = at;
-        self.waits.clear();
     }
 
     /// Whether its entries may be called.
     pub(crate) fn is_callable(&self) -> bool
         ensures { result ≡ is_callable (plain_task self.now).own }
     {
-        match self.status {
+        match self.condition.status() {
             Status::Completed | Status::Terminated => false,
             Status::Created
             | Status::Running
             | Status::Activating
             | Status::Accepting
             | Status::Delaying
-            | Status::Calling => !self.abnormal,
+            | Status::Calling => !self.condition.is_abnormal(),
         }
     }
 
@@ -120,7 +116,7 @@ impl Task {
         ensures { (plan : Plan) → (barrier : ℕ → Sight → Result Bool RaiseOf) → result
             ≡ serves_now plan barrier (plain_task self.now).own.serving (plain_task self.now).own.opened }
     {
-        match self.serving {
+        match self.condition.serving() {
             Some(_) => true,
             None => self.parked.stack().is_serving(),
         }
@@ -128,24 +124,24 @@ impl Task {
 
     /// Whether it is terminated.
     pub(crate) fn is_terminated(&self) -> bool
-        ensures { result ≡ is_terminated self.now.status }
+        ensures { result ≡ is_terminated self.now.condition.status }
     {
-        matches!(self.status, Status::Terminated)
+        matches!(self.condition.status(), Status::Terminated)
     }
 
     /// Whether it is created and not activated.
     pub(crate) fn is_created(&self) -> bool
-        ensures { result ≡ is_created self.now.status }
+        ensures { result ≡ is_created self.now.condition.status }
     {
-        matches!(self.status, Status::Created)
+        matches!(self.condition.status(), Status::Created)
     }
 
     /// Whether it waits for activations.
     pub(crate) fn is_activating(&self) -> bool
         ensures { (go : Orders Spot) → (plan : Plan) → (barrier : ℕ → Sight → Result Bool RaiseOf) →
-            result ≡ effect.is_activating go plan barrier self.now.status }
+            result ≡ effect.is_activating go plan barrier self.now.condition.status }
     {
-        matches!(self.status, Status::Activating)
+        matches!(self.condition.status(), Status::Activating)
     }
 
     /// Whether the declarative part with this frame has created it, and not activated it.
@@ -179,7 +175,9 @@ impl Task {
     pub(crate) fn may_terminate(&self) -> bool
         ensures { result ≡ may_terminate (plain_task self.now).own }
     {
-        matches!(self.status, Status::Accepting) && self.waits.terminate && !self.abnormal
+        matches!(self.condition.status(), Status::Accepting)
+            && self.condition.has_terminate()
+            && !self.condition.is_abnormal()
     }
 
     /// Whether a master cannot be left because of it (RM 9.3(5)).
@@ -270,7 +268,7 @@ impl Task {
     pub(crate) fn begin(&mut self, activator: usize)
         ensures { plain_task self.new ≡ record (plain_task self.old) { own = record (plain_task self.old).own { status = Running; activator = Some activator } } }
     {
-        self.status = Status::Running;
+        self.condition.come_to(Status::Running);
         self.activator = Some(activator);
     }
 
@@ -278,19 +276,17 @@ impl Task {
     pub(crate) fn complete_own(&mut self, raised: Option<Exception>)
         ensures { plain_task self.new ≡ record (plain_task self.old) { own = record (plain_task self.old).own { status = Completed; pending = None; raised = raised; waits = no_waits } } }
     {
-        self.status = Status::Completed;
+        self.condition.come_free_to(Status::Completed);
         self.parked.set_pending(None);
         self.raised = raised;
-        self.waits.clear();
     }
 
     /// It is terminated, and loses its frames.
     pub(crate) fn terminate_own(&mut self, alloc: Global)
         ensures { plain_task self.new ≡ record (plain_task self.old) { own = record (plain_task self.old).own { status = Terminated; pending = None; display = []; opened = []; waits = no_waits } } }
     {
-        self.status = Status::Terminated;
+        self.condition.come_free_to(Status::Terminated);
         self.parked.lose_frames(alloc);
-        self.waits.clear();
     }
 
     /// An activation for which it waits has failed, or not.

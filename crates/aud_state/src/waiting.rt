@@ -56,10 +56,9 @@ impl Task {
           own = record (blocks Calling at no_waits (plain_task self.old).own) { call = id };
         } }
     {
-        self.status = Status::Calling;
+        self.condition.come_free_to(Status::Calling);
         self.at = at;
         self.call = id;
-        self.waits.clear();
     }
 }
 

@@ -1,3 +1,4 @@
+pub mod Hindering
 pub mod Moves
 pub mod Steps
 pub mod Still

@@ -3,7 +3,7 @@ use Rattle.std.specs.Prelude.{ℕ, ◌+◌, [], length, slice_index_or}
 use Rattle.aud_typed.specs.Tree.{Plan}
 use Rattle.aud_code.specs.Flat.{Flat}
 use Rattle.aud_expr.specs.Size.{instructions_in, instructions_of_all}
-use Rattle.aud_protected.specs.Counting.{most_asked}
+pub use Rattle.aud_protected.specs.Counting.{costs, most_among, most_asked}
 
 -- of the barrier of an entry
 abbrev pub cost_in : Flat → ℕ → ℕ

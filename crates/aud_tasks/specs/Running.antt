@@ -1,17 +1,20 @@
 -- What runs of a program with all its tasks do.
-use Rattle.std.specs.Prelude.{◌≡◌, ◌<◌, ℕ, ◌+◌, ◌*◌, ◌≤◌, List, [], ◌∷◌, length, Option, Some, None, Bool, true, false}
+use Rattle.std.specs.Prelude.{◌≡◌, ◌<◌, ℕ, ◌+◌, ◌*◌, ◌≤◌, ◌⊎◌, List, [], ◌∷◌, length, Option, Some, None, Bool, true, false, slice_get}
 use Rattle.aud_text.specs.declared.limits.Limits.{Limits}
 use Rattle.aud_typed.specs.Tree.{Plan}
-use Rattle.aud_meaning.specs.Configuration.{All}
+use Rattle.aud_meaning.specs.Configuration.{TaskAt, All}
 use Rattle.aud_meaning.specs.declared.state.Move.{Move}
+use Rattle.aud_meaning.specs.declared.state.Status.TheVariants.{Running}
+use Rattle.aud_meaning.specs.Parts.{is_idle, object_of, sight_of}
 use Rattle.aud_meaning.specs.Run.{Turn, acting, own_move, moves_at, run_with, state_at, step_with, take_one}
 use Rattle.aud_meaning.specs.Why.Limits.{IsWithin}
 use Rattle.aud_code.specs.Places.{Spot}
-use Rattle.aud_code.specs.Flat.{Flat, flat_controls}
+use Rattle.aud_code.specs.Flat.{Flat, coming_at, flat_controls}
 use Rattle.aud_expr.specs.Size.{size}
 use Rattle.aud_over.specs.Over.{forgotten}
 use Rattle.aud_tasks.specs.declared.run.Ran.{Ran}
 use Rattle.aud_state.specs.declared.fast.Taken.{Taken}
+use Rattle.aud_tasks.specs.Choices.{IsNoStart}
 use Rattle.aud_tasks.specs.Counting.{most_ticks}
 use Rattle.aud_tasks.specs.Turning.{turn_in}
 
@@ -70,6 +73,19 @@ pub record GoesOn (plan : Plan) (code : Flat) (n : ℕ) (c : All Spot) : Type 0 
   pub moves : moves_at plan (flat_controls plan code) c ≡ own_move n ∷ others
   pub unchosen : IsUnchosen others c.choices
   pub acts : acts_in plan code n c ≡ true
+
+-- no object has an action under way
+abbrev pub AreIdle : All Spot → Type 0
+AreIdle c = (object : ℕ) → is_idle (object_of object c) ≡ true
+
+-- no task but that of a number is to begin one next
+abbrev pub BeginsAlone : Plan → Flat → ℕ → All Spot → Type 0
+BeginsAlone plan code n c = (k : ℕ) (t : TaskAt Spot) → slice_get c.tasks k ≡ Some t → ¬ (k ≡ n) → t.own.status ≡ Running → IsNoStart (coming_at code plan t.own.pending (sight_of k c) t.control)
+
+-- What variables hold keeps no other task from an action. Which object that would be of, a variable tells; which entries are open to
+-- one that services an object, too, but that has a move in any case.
+abbrev pub HindersNone : Plan → Flat → ℕ → All Spot → Type 0
+HindersNone plan code n c = AreIdle c ⊎ BeginsAlone plan code n c
 
 -- a move is taken; before it, where there are others, the next choice is used up
 pub record Picks (plan : Plan) (code : Flat) (m : Move) (old new : All Spot) : Type 0 where

@@ -9,6 +9,7 @@ pub mod compiled;
 mod enabled;
 mod endings;
 mod entries;
+mod hindering;
 mod leave;
 pub mod moves;
 mod objects;

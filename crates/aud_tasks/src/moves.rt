@@ -67,12 +67,11 @@ pub(crate) fn list_moves(
         return Ok(());
     }
     let clock = state.clock();
-    for task in 0..state.len() {
-        if state.rests(task) {
-            continue;
-        }
+    let mut task = state.next_awake(0);
+    while task < state.len() {
         let enabled = enabled_of(state, alloc, compiled, operands, task)?;
         list(&enabled, task, clock, moves)?;
+        task = state.next_awake(task + 1);
     }
     Ok(())
 }
@@ -98,10 +97,8 @@ pub(crate) fn nth_move(
     }
     let clock = state.clock();
     let mut left = index;
-    for task in 0..state.len() {
-        if state.rests(task) {
-            continue;
-        }
+    let mut task = state.next_awake(0);
+    while task < state.len() {
         if left == 0 && acts_simply(state, compiled.code, task) {
             return Ok(Some(only_move(task)));
         }
@@ -110,6 +107,7 @@ pub(crate) fn nth_move(
             return Ok(Some(found));
         }
         left -= count(&enabled, task, clock);
+        task = state.next_awake(task + 1);
     }
     Ok(None)
 }
@@ -122,10 +120,12 @@ pub(crate) fn next_mover(state: &State, compiled: Compiled<'_>, from: usize) -> 
         compiled.entry.code.now from state.now ≡ []) }
     ensures few { IfSome result (λ task. task < 2 ^ 64 - 1) }
 {
-    for task in from..state.len() {
+    let mut task = state.next_awake(from);
+    while task < state.len() {
         if has_move(state, compiled, task) {
             return Some(task);
         }
+        task = state.next_awake(task + 1);
     }
     None
 }

@@ -50,7 +50,7 @@ pub(crate) fn step(
         return Ok(0);
     }
     let next = turn_of(state, compiled.code, taken.task);
-    state.count_step();
+    state.count_step(taken.task);
     take_turn(state, alloc, compiled, next, taken, operands)
 }
 

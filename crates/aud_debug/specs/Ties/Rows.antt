@@ -10,7 +10,7 @@ use Rattle.aud_meaning.specs.Listings.{abnormal_word, alternative_word, queue_li
 use Rattle.aud_meaning.specs.Parts.{call_of, entry_plan, object_of, object_plan, own_of, owner_number}
 use Rattle.aud_code.specs.Places.{Spot}
 use Rattle.aud_code.specs.Flat.{Flat, barrier_at}
-use Rattle.aud_tasks.specs.Shown.{status_in, step_in}
+use Rattle.aud_machine.specs.Tasking.{status_in, step_in}
 
 -- the number of a task, which counts from 1, and its name, each followed by a space
 abbrev pub task_head : ℕ → All Spot → List ℕ

@@ -3,8 +3,7 @@ use Rattle.std.proofs.Common.{◌≡◌, ℕ, suc, ◌+◌, ◌-◌, ◌<◌, Li
 use Rattle.std.proofs.lemmas.List.{append_assoc, map-append}
 use Rattle.aud_text.specs.declared.raise.Raise.{Raise}
 use Rattle.aud_typed.specs.Tree.{Plan, Tasks}
-use Rattle.aud_meaning.specs.declared.state.Status.TheVariants.{Created}
-use Rattle.aud_meaning.specs.Configuration.{Own, TaskAt, Waits}
+use Rattle.aud_meaning.specs.Configuration.{Own, TaskAt}
 use Rattle.aud_meaning.specs.Evaluation.{Sight}
 use Rattle.aud_meaning.specs.Orders.{Orders}
 use Rattle.aud_meaning.specs.Parts.{nobody}
@@ -12,14 +11,15 @@ use Rattle.aud_meaning.specs.Tasks as effect
 use Rattle.aud_meaning.specs.Ties.Part.{within_own}
 use Rattle.aud_code.specs.Places.{Spot}
 use Rattle.aud_sequential.specs.Parked.{Parked}
+use Rattle.aud_state.specs.Condition.{Condition}
 use Rattle.aud_state.specs.declared.task.Task.{Task}
 use Rattle.aud_state.specs.View.{plain_task}
 
 -- a task that has these, and nothing else
-abbrev pub made : List ℕ → ℕ → ℕ → Parked → List ℕ → ℕ → Waits → TaskAt Spot
-made name task_type unit p masters part waits = record {
+abbrev pub made : List ℕ → ℕ → ℕ → Parked → List ℕ → ℕ → Condition → TaskAt Spot
+made name task_type unit p masters part c = record {
   control = p.control;
-  own = within_own (record nobody { name = name; task_type = Some task_type; unit = unit; status = Created; masters = masters; part = part; waits = waits }) p.pending p.stack;
+  own = within_own (record nobody { name = name; task_type = Some task_type; unit = unit; status = c.status; masters = masters; part = part; waits = c.waits; serving = c.serving; abnormal = c.abnormal }) p.pending p.stack;
 }
 
 module _ (go : Orders Spot) (plan : Plan) (barrier : ℕ → Sight → Result Bool Raise) (creator : Own) (ts : Tasks) where

@@ -1,5 +1,5 @@
 -- A task that rests has no move.
-use Rattle.std.proofs.Common.{◌≡◌, ◌<◌, ◌+◌, ◌++◌, length, ℕ, List, [], ◌∷◌, None, Bool, true, false, if◌then◌else◌, refl, ap, sym, ◌∙◌}
+use Rattle.std.proofs.Common.{◌≡◌, ◌<◌, ◌≤◌, ◌+◌, ◌-◌, ◌++◌, length, ℕ, zero, suc, arith, List, [], ◌∷◌, None, Bool, true, false, if◌then◌else◌, refl, ap, sym, ◌∙◌}
 use Rattle.std.proofs.lemmas.Bool.{false≢true}
 use Rattle.std.specs.Prelude.{◌||◌, ◌&&◌, filter, map, nat_le, not}
 use Rattle.aud_typed.specs.Tree.{Plan}
@@ -73,5 +73,28 @@ module _ (plan : Plan) (code : Flat) (n : ℕ) (c : All Spot) where
   rests_none h = rests_by (own_of n c).status refl h
 
   -- so those behind it are all
-  pub rests_behind : Rests n c → n < length c.tasks → from plan code c n ≡ from plan code c (n + 1)
+  rests_behind : Rests n c → n < length c.tasks → from plan code c n ≡ from plan code c (n + 1)
   rests_behind h within = moves_next plan code c n within ∙ ap (λ ms. ms ++ from plan code c (n + 1)) (rests_none h)
+
+-- all that rest from one number up to another are passed
+module _ (plan : Plan) (code : Flat) (c : All Spot) where
+  passed : (k i : ℕ) → ((n : ℕ) → i ≤ n → n < i + k → Rests n c) → i + k ≤ length c.tasks → from plan code c i ≡ from plan code c (i + k)
+  passed zero i rest within =
+      let same : i ≡ i + 0 = omega arith in
+      ap (from plan code c) same
+  passed (suc k) i rest within =
+      let same : (i + 1) + k ≡ i + suc k = omega arith in
+      rests_behind plan code i c (rest i (omega arith) (omega arith)) (omega (arith, within))
+      ∙ passed k (i + 1) (λ n low high. rest n (omega (arith, low)) (omega (arith, high))) (omega (arith, within))
+      ∙ ap (from plan code c) same
+
+  pub rests_between : (i j : ℕ) → i ≤ j → (i < j → j ≤ length c.tasks) → ((n : ℕ) → i ≤ n → n < j → Rests n c) → from plan code c i ≡ from plan code c j
+  rests_between i j on within rest = by (j - i) (omega (arith, on))
+    where
+      by : (k : ℕ) → i + k ≡ j → from plan code c i ≡ from plan code c j
+      by zero same =
+          let is : i ≡ j = omega (arith, same) in
+          ap (from plan code c) is
+      by (suc k) same =
+          passed (suc k) i (λ n low high. rest n low (omega (arith, high, same))) (omega (arith, same, within (omega (arith, same))))
+          ∙ ap (from plan code c) same

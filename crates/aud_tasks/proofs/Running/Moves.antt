@@ -1,8 +1,8 @@
--- Moves that stay, where what comes next of each task is of the same sort. Those of other tasks at a select or a call may differ, since
--- guards and names depend on variables; then they have some moves all the same.
+-- Moves that stay, where what comes next of each task is of the same sort. Those of other tasks at a select or a call, or that service
+-- an object, may differ, since guards, names and barriers depend on variables; then they have some moves all the same.
 use Rattle.std.proofs.Common.{◌≡◌, ◌+◌, ℕ, zero, suc, List, [], ◌∷◌, ◌++◌, drop, Option, Some, None, Bool, true, false, not, ◌&&◌, ◌||◌, if◌then◌else◌, map, refl, ap, sym, subst, ◌∙◌, arith}
 use Rattle.std.proofs.lemmas.Option.{same_Some}
-use Rattle.std.specs.Prelude.{Result, filter, nat_le, slice_get, slice_index_or}
+use Rattle.std.specs.Prelude.{Result, Ok, Err, IfSome, filter, nat_le, slice_get, slice_index_or}
 use Rattle.aud_text.specs.declared.raise.Raise.{Raise}
 use Rattle.aud_typed.specs.Tree.{Plan}
 use Rattle.aud_meaning.specs.declared.state.Move.{Move}
@@ -11,10 +11,11 @@ use Rattle.aud_meaning.specs.declared.state.Status.TheVariants.{Created, Running
 use Rattle.aud_meaning.specs.declared.state.Owner.{Owner}
 use Rattle.aud_meaning.specs.declared.state.Owner.TheVariants as owner
 use Rattle.aud_meaning.specs.declared.state.Serving.{Serving}
+use Rattle.aud_meaning.specs.declared.state.Action.{Action}
 use Rattle.aud_meaning.specs.Configuration.{Call, Frame, Object, Own, TaskAt, All}
 use Rattle.aud_meaning.specs.Evaluation.{Sight}
 use Rattle.aud_meaning.specs.Control.{Seen, Coming, simply, ending, selecting, calling, starting}
-use Rattle.aud_meaning.specs.Parts.{nobody, no_object, in_the_way, own_of, call_of, is_queued, owns, any, depends, may_terminate, Closable, body_master, in_action, open_alternatives}
+use Rattle.aud_meaning.specs.Parts.{nobody, in_the_way, is_idle, object_of, own_of, call_of, is_queued, owns, any, depends, may_terminate, Closable, body_master, in_action, open_alternatives}
 use Rattle.aud_meaning.specs.Tasks.{eligible}
 use Rattle.aud_meaning.specs.Run.{Turn, own_move, only, owner_idle, call_time_by, call_time, end_moves, each_or_one, alternatives_of, has_queue, acting_moves, master_left_by, construct_left, is_leave, is_bound, Deferred, at_once, serve_moves, usual, under_way, turn_by, turn, turn_at, turn_moves, moves_from, has_ended, moves_by, moves}
 use Rattle.aud_tasks.specs.Running.{is_acting}
@@ -26,7 +27,7 @@ pub data SameOr (Other Same : Type 0) : Type 0 where
   differs : Other → SameOr Other Same
 
 -- what comes next is of the same sort in both: both leave a construct, or neither does. What is open in a select, and who is called,
--- may differ of some tasks; which object is called, where all are free
+-- may differ of some tasks; which object is called, where all are idle
 abbrev pub AreAlike : (Free Other : Type 0) → Coming → Coming → Type 0
 AreAlike Free Other (simply w) (simply v) = Unit {0}
 AreAlike Free Other ending ending = Unit {0}
@@ -42,16 +43,21 @@ alike_self Free Other (selecting xs) = stays refl
 alike_self Free Other (calling t x) = stays (refl, refl)
 alike_self Free Other (starting object reading) = stays (refl, refl)
 
--- the same task, elsewhere in its code
-pub record AlikeTask (Free Other : Type 0) (t u : TaskAt Seen) : Type 0 where
+-- whatever it services, those that are eligible are the same in both, or may differ of it
+abbrev pub ServesSame : (Served Other : Type 0) → Option Serving → Type 0
+ServesSame Served Other serving = SameOr Other (IfSome serving (λ s. Served))
+
+-- The same task, elsewhere in its code. Free is what makes objects idle, where the task's status lets it begin an action.
+pub record AlikeTask (Free : Status → Type 0) (Served Other : Type 0) (t u : TaskAt Seen) : Type 0 where
   pub own : t.own ≡ u.own
-  pub coming : AreAlike Free Other t.control.coming u.control.coming
+  pub coming : AreAlike (Free t.own.status) Other t.control.coming u.control.coming
+  pub serving : ServesSame Served Other t.own.serving
 
 -- from a number on
-abbrev pub AlikeTasks : (Free : Type 0) → (ℕ → Type 0) → ℕ → List (TaskAt Seen) → List (TaskAt Seen) → Type 0
-AlikeTasks Free Other n [] [] = Unit {0}
-AlikeTasks Free Other n (t ∷ ts) (u ∷ us) = AlikeTask Free (Other n) t u × AlikeTasks Free Other (suc n) ts us
-AlikeTasks Free Other n ts us = ⊥
+abbrev pub AlikeTasks : (Status → Type 0) → (Served : Type 0) → (ℕ → Type 0) → ℕ → List (TaskAt Seen) → List (TaskAt Seen) → Type 0
+AlikeTasks Free Served Other n [] [] = Unit {0}
+AlikeTasks Free Served Other n (t ∷ ts) (u ∷ us) = AlikeTask Free Served (Other n) t u × AlikeTasks Free Served Other (suc n) ts us
+AlikeTasks Free Served Other n ts us = ⊥
 
 -- Moves that are the same, or of which both have some.
 abbrev pub HasSome : List Move → Type 0
@@ -85,11 +91,11 @@ head_of x y xs ys h = same_Some x y (ap (λ l. slice_get l 0) h)
 tail_of : (x y : Move) (xs ys : List Move) → x ∷ xs ≡ y ∷ ys → xs ≡ ys
 tail_of x y xs ys h = ap (drop 1) h
 
-pub owns_alike : (Free : Type 0) (Other : ℕ → Type 0) (n : ℕ) (ts us : List (TaskAt Seen)) → AlikeTasks Free Other n ts us → owns ts ≡ owns us
-owns_alike Free Other n [] [] h = refl
-owns_alike Free Other n [] (u ∷ us) h = absurd h
-owns_alike Free Other n (t ∷ ts) [] h = absurd h
-owns_alike Free Other n (t ∷ ts) (u ∷ us) h = ap (λ o. o ∷ owns ts) h.0.own ∙ ap (λ os. u.own ∷ os) (owns_alike Free Other (suc n) ts us h.1)
+pub owns_alike : (Free : Status → Type 0) (Served : Type 0) (Other : ℕ → Type 0) (n : ℕ) (ts us : List (TaskAt Seen)) → AlikeTasks Free Served Other n ts us → owns ts ≡ owns us
+owns_alike Free Served Other n [] [] h = refl
+owns_alike Free Served Other n [] (u ∷ us) h = absurd h
+owns_alike Free Served Other n (t ∷ ts) [] h = absurd h
+owns_alike Free Served Other n (t ∷ ts) (u ∷ us) h = ap (λ o. o ∷ owns ts) h.0.own ∙ ap (λ os. u.own ∷ os) (owns_alike Free Served Other (suc n) ts us h.1)
 
 any_owns : (f : Own → Bool) (ts : List (TaskAt Seen)) → any (λ (t : TaskAt Seen). f t.own) ts ≡ any f (owns ts)
 any_owns f [] = refl
@@ -99,11 +105,20 @@ any_owns f (t ∷ ts) = ap (λ b. f t.own || b) (any_owns f ts)
 abbrev pub elsewhere : List (TaskAt Seen) → List Frame → List ℕ → ℕ → All Seen → All Seen
 elsewhere us frames choices steps d = record d { tasks = us; shared = record d.shared { frames = frames }; choices = choices; steps = steps }
 
+-- no object has an action under way
+abbrev pub AreIdle : All Seen → Type 0
+AreIdle d = (object : ℕ) → is_idle (object_of object d) ≡ true
+
+-- none is in the way then
+free_by : (actions : List Action) (o : Object) (n : ℕ) (reading : Bool) → o.actions ≡ actions → is_idle o ≡ true → in_the_way n reading o ≡ false
+free_by [] o n reading are idle = rw are refl
+free_by (a ∷ more) o n reading are idle = absurd (let busy : is_idle o ≡ false = rw are refl in cc)
+
 -- the entries of each object that are eligible are the same in both
 abbrev pub ServesAlike : Plan → (ℕ → Sight → Result Bool Raise) → All Seen → All Seen → Type 0
 ServesAlike plan barrier d e = (object : ℕ) → eligible plan barrier object d ≡ eligible plan barrier object e
 
-module _ (plan : Plan) (barrier : ℕ → Sight → Result Bool Raise) (Free : Type 0) (d : All Seen) (free : Free → d.shared.objects ≡ []) (us : List (TaskAt Seen)) (frames : List Frame) (choices : List ℕ) (steps : ℕ) (serves : ServesAlike plan barrier d (elsewhere us frames choices steps d)) (same : owns d.tasks ≡ owns us) where
+module _ (plan : Plan) (barrier : ℕ → Sight → Result Bool Raise) (Free : Status → Type 0) (Served : Type 0) (d : All Seen) (free : Free Running → AreIdle d) (us : List (TaskAt Seen)) (frames : List Frame) (choices : List ℕ) (steps : ℕ) (serves : Served → ServesAlike plan barrier d (elsewhere us frames choices steps d)) (same : owns d.tasks ≡ owns us) where
   abbrev e : All Seen
   e = elsewhere us frames choices steps d
 
@@ -137,11 +152,15 @@ module _ (plan : Plan) (barrier : ℕ → Sight → Result Bool Raise) (Free : T
   call_some None entry n c = tt
   call_some (Some task) entry n c = each_some (alternatives_of plan barrier (open_alternatives (own_of task c) entry)) n
 
-  -- no action is in the way where there are no objects
-  starts_free : (object : ℕ) (reading : Bool) (n : ℕ) → d.shared.objects ≡ [] → acting_moves plan barrier (starting object reading) n d ≡ own_move n ∷ []
-  starts_free object reading n none = ap (λ (os : List Object). only plan barrier (not (in_the_way n reading (slice_index_or os object no_object))) n) none
+  serve_some : (r : Result (List ℕ) Raise) (n : ℕ) → HasSome (serve_moves plan barrier r n)
+  serve_some (Err raise) n = tt
+  serve_some (Ok places) n = each_some places n
 
-  alike_there : (Other : Type 0) (x y : Coming) (n : ℕ) → AreAlike Free Other x y → AgreeMoves Other (acting_moves plan barrier x n d) (acting_moves plan barrier y n e)
+  -- no action is in the way where all objects are idle
+  starts_free : (object : ℕ) (reading : Bool) (n : ℕ) → AreIdle d → acting_moves plan barrier (starting object reading) n d ≡ own_move n ∷ []
+  starts_free object reading n idle = ap (λ b. only plan barrier (not b) n) (free_by (object_of object d).actions (object_of object d) n reading refl (idle object))
+
+  alike_there : (Other : Type 0) (x y : Coming) (n : ℕ) → AreAlike (Free Running) Other x y → AgreeMoves Other (acting_moves plan barrier x n d) (acting_moves plan barrier y n e)
   alike_there Other (simply w) (simply v) n h = same_moves refl
   alike_there Other ending ending n h = same_moves (coming_there ending n)
   alike_there Other (selecting xs) (selecting ys) n (stays h) = same_moves (ap (λ zs. acting_moves plan barrier (selecting zs) n d) h ∙ coming_there (selecting ys) n)
@@ -175,8 +194,8 @@ module _ (plan : Plan) (barrier : ℕ → Sight → Result Bool Raise) (Free : T
     moves : AgreeMoves Other (turn_moves plan barrier u n d) (turn_moves plan barrier v n e)
     acts : is_acting u ≡ is_acting v
 
-  module _ (Other : Type 0) (n : ℕ) (x y : Seen) (o : Own) (alike : AreAlike Free Other x.coming y.coming) where
-    leave_there : (a b : Coming) → AreAlike Free Other a b → is_leave a o ≡ is_leave b o
+  module _ (Other : Type 0) (n : ℕ) (x y : Seen) (o : Own) (alike : AreAlike (Free o.status) Other x.coming y.coming) (served : ServesSame Served Other o.serving) where
+    leave_there : (a b : Coming) → AreAlike (Free o.status) Other a b → is_leave a o ≡ is_leave b o
     leave_there (simply w) (simply v) h = refl
     leave_there ending ending h = refl
     leave_there (selecting xs) (selecting ys) h = refl
@@ -197,27 +216,37 @@ module _ (plan : Plan) (barrier : ℕ → Sight → Result Bool Raise) (Free : T
     deferred_there : Deferred plan barrier n (with_own x o) d ≡ Deferred plan barrier n (with_own y o) e
     deferred_there = ap (λ b. if in_action n d then true else b) (bound_there o.status)
 
-    usual_there : (serving : Option Serving) (status : Status) → SameTurn Other n (usual plan barrier serving status n (with_own x o) d) (usual plan barrier serving status n (with_own y o) e)
-    usual_there (Some s) status = record { moves = same_moves (ap (λ r. serve_moves plan barrier r n) (serves s.object)); acts = refl }
-    usual_there None Created = record { moves = same_moves refl; acts = refl }
-    usual_there None Running = record { moves = alike_there Other x.coming y.coming n alike; acts = refl }
-    usual_there None Activating = record { moves = same_moves refl; acts = refl }
-    usual_there None Accepting = record { moves = same_moves refl; acts = refl }
-    usual_there None Delaying = record { moves = same_moves refl; acts = refl }
-    usual_there None Calling = record { moves = same_moves (ap (λ times. map (λ time. own_move n) (filter (λ time. nat_le time d.clock) times)) (times_there (call_of o.call d))); acts = refl }
-    usual_there None Completed = record { moves = same_moves refl; acts = refl }
-    usual_there None Terminated = record { moves = same_moves refl; acts = refl }
+    abbrev SameUsual : Option Serving → Status → Type 0
+    SameUsual serving status = SameTurn Other n (usual plan barrier serving status n (with_own x o) d) (usual plan barrier serving status n (with_own y o) e)
+
+    serving_there : (s : Serving) (status : Status) → ServesSame Served Other (Some s) → SameUsual (Some s) status
+    serving_there s status (stays same) = record { moves = same_moves (ap (λ r. serve_moves plan barrier r n) (serves same s.object)); acts = refl }
+    serving_there s status (differs other) = record {
+      moves = some_moves other (serve_some (eligible plan barrier s.object d) n) (serve_some (eligible plan barrier s.object e) n);
+      acts = refl;
+    }
+
+    usual_there : (serving : Option Serving) (status : Status) → AreAlike (Free status) Other x.coming y.coming → ServesSame Served Other serving → SameUsual serving status
+    usual_there (Some s) status h same = serving_there s status same
+    usual_there None Created h same = record { moves = same_moves refl; acts = refl }
+    usual_there None Running h same = record { moves = alike_there Other x.coming y.coming n h; acts = refl }
+    usual_there None Activating h same = record { moves = same_moves refl; acts = refl }
+    usual_there None Accepting h same = record { moves = same_moves refl; acts = refl }
+    usual_there None Delaying h same = record { moves = same_moves refl; acts = refl }
+    usual_there None Calling h same = record { moves = same_moves (ap (λ times. map (λ time. own_move n) (filter (λ time. nat_le time d.clock) times)) (times_there (call_of o.call d))); acts = refl }
+    usual_there None Completed h same = record { moves = same_moves refl; acts = refl }
+    usual_there None Terminated h same = record { moves = same_moves refl; acts = refl }
 
     once_there : (withdraw : Option ℕ) → SameTurn Other n (at_once plan barrier withdraw) (at_once plan barrier withdraw)
     once_there None = record { moves = same_moves refl; acts = refl }
     once_there (Some object) = record { moves = same_moves refl; acts = refl }
 
     under_there : (abnormal : Bool) → SameTurn Other n (under_way plan barrier abnormal n (with_own x o) d) (under_way plan barrier abnormal n (with_own y o) e)
-    under_there false = usual_there o.serving o.status
+    under_there false = usual_there o.serving o.status alike served
     under_there true = by (Deferred plan barrier n (with_own x o) d) (Deferred plan barrier n (with_own y o) e) refl refl deferred_there
       where
         by : (b c : Bool) → Deferred plan barrier n (with_own x o) d ≡ b → Deferred plan barrier n (with_own y o) e ≡ c → b ≡ c → SameTurn Other n (under_way plan barrier true n (with_own x o) d) (under_way plan barrier true n (with_own y o) e)
-        by true true f g h = rw (f, g) (usual_there o.serving o.status)
+        by true true f g h = rw (f, g) (usual_there o.serving o.status alike served)
         by false false f g h = rw (f, g) (once_there o.withdraw)
         by true false f g h = absurd cc
         by false true f g h = absurd cc
@@ -232,12 +261,12 @@ module _ (plan : Plan) (barrier : ℕ → Sight → Result Bool Raise) (Free : T
     turn_there Completed = record { moves = same_moves (ap (λ (p : Own). only plan barrier (Closable (body_master p) d) n) (own_there n) ∙ ap (λ b. only plan barrier b n) (closable (body_master (own_of n e)))); acts = refl }
     turn_there Terminated = record { moves = same_moves refl; acts = refl }
 
-  task_there : (Other : Type 0) (n : ℕ) (t u : TaskAt Seen) → AlikeTask Free Other t u → SameTurn Other n (turn plan barrier n t d) (turn plan barrier n u e)
+  task_there : (Other : Type 0) (n : ℕ) (t u : TaskAt Seen) → AlikeTask Free Served Other t u → SameTurn Other n (turn plan barrier n t d) (turn plan barrier n u e)
   task_there Other n t u h =
       subst (λ (o : Own). SameTurn Other n (turn plan barrier n t d) (turn plan barrier n (with_own u.control o) e)) h.own
-      (turn_there Other n t.control u.control t.own h.coming t.own.status)
+      (turn_there Other n t.control u.control t.own h.coming h.serving t.own.status)
 
-  acts_there : (Other : ℕ → Type 0) (n k i : ℕ) (ts vs : List (TaskAt Seen)) → k + i ≡ n → AlikeTasks Free Other k ts vs → is_acting (turn_at plan barrier (slice_get ts i) n d) ≡ is_acting (turn_at plan barrier (slice_get vs i) n e)
+  acts_there : (Other : ℕ → Type 0) (n k i : ℕ) (ts vs : List (TaskAt Seen)) → k + i ≡ n → AlikeTasks Free Served Other k ts vs → is_acting (turn_at plan barrier (slice_get ts i) n d) ≡ is_acting (turn_at plan barrier (slice_get vs i) n e)
   acts_there Other n k i [] [] at h = refl
   acts_there Other n k i [] (v ∷ vs) at h = absurd h
   acts_there Other n k i (t ∷ ts) [] at h = absurd h
@@ -245,11 +274,11 @@ module _ (plan : Plan) (barrier : ℕ → Sight → Result Bool Raise) (Free : T
   acts_there Other n k (suc i) (t ∷ ts) (v ∷ vs) at h = acts_there Other n (suc k) i ts vs (omega (arith, at)) h.1
 
   -- those of a task, in both
-  moves_of_task : (Other : ℕ → Type 0) (n : ℕ) (t v : TaskAt Seen) → AlikeTask Free (Other n) t v → AgreeMoves (Other n) (turn_moves plan barrier (turn plan barrier n t d) n d) (turn_moves plan barrier (turn plan barrier n v e) n e)
+  moves_of_task : (Other : ℕ → Type 0) (n : ℕ) (t v : TaskAt Seen) → AlikeTask Free Served (Other n) t v → AgreeMoves (Other n) (turn_moves plan barrier (turn plan barrier n t d) n d) (turn_moves plan barrier (turn plan barrier n v e) n e)
   moves_of_task Other n t v h = (task_there (Other n) n t v h).moves
 
   -- where they differ of no task
-  all_there : (n : ℕ) (ts vs : List (TaskAt Seen)) → AlikeTasks Free (λ k. ⊥) n ts vs → moves_from plan barrier n ts d ≡ moves_from plan barrier n vs e
+  all_there : (n : ℕ) (ts vs : List (TaskAt Seen)) → AlikeTasks Free Served (λ k. ⊥) n ts vs → moves_from plan barrier n ts d ≡ moves_from plan barrier n vs e
   all_there n [] [] h = refl
   all_there n [] (v ∷ vs) h = absurd h
   all_there n (t ∷ ts) [] h = absurd h
@@ -258,7 +287,7 @@ module _ (plan : Plan) (barrier : ℕ → Sight → Result Bool Raise) (Free : T
       ∙ ap (λ ms. turn_moves plan barrier (turn plan barrier n v e) n e ++ ms) (all_there (suc n) ts vs h.1)
 
   -- none in both, where there is none in the one
-  none_there : (Other : ℕ → Type 0) (n : ℕ) (ts vs : List (TaskAt Seen)) → AlikeTasks Free Other n ts vs → moves_from plan barrier n ts d ≡ [] → moves_from plan barrier n vs e ≡ []
+  none_there : (Other : ℕ → Type 0) (n : ℕ) (ts vs : List (TaskAt Seen)) → AlikeTasks Free Served Other n ts vs → moves_from plan barrier n ts d ≡ [] → moves_from plan barrier n vs e ≡ []
   none_there Other n [] [] h none = refl
   none_there Other n [] (v ∷ vs) h none = absurd h
   none_there Other n (t ∷ ts) [] h none = absurd h
@@ -292,7 +321,7 @@ module _ (plan : Plan) (barrier : ℕ → Sight → Result Bool Raise) (Free : T
     first_by n (m ∷ ms) ns rest left others theirs (some_moves other some there) first here none =
         absurd (other (sym theirs.0 ∙ ap (λ (x : Move). x.task) (head_of m (own_move of) (ms ++ rest) others first)))
 
-    first_there : (n : ℕ) (ts vs : List (TaskAt Seen)) (others : List Move) → AlikeTasks Free Others n ts vs → moves_from plan barrier n ts d ≡ own_move of ∷ others → Behind others (moves_from plan barrier n vs e)
+    first_there : (n : ℕ) (ts vs : List (TaskAt Seen)) (others : List Move) → AlikeTasks Free Served Others n ts vs → moves_from plan barrier n ts d ≡ own_move of ∷ others → Behind others (moves_from plan barrier n vs e)
     first_there n [] [] others h first = absurd cc
     first_there n [] (v ∷ vs) others h first = absurd h
     first_there n (t ∷ ts) [] others h first = absurd h
@@ -305,11 +334,11 @@ module _ (plan : Plan) (barrier : ℕ → Sight → Result Bool Raise) (Free : T
         (λ none. first_there (suc n) ts vs others h.1 (sym (ap (λ l. l ++ rest) none) ∙ first))
         (none_there Others (suc n) ts vs h.1)
 
-module _ (plan : Plan) (barrier : ℕ → Sight → Result Bool Raise) (Free : Type 0) (Other : ℕ → Type 0) (d : All Seen) (free : Free → d.shared.objects ≡ []) (us : List (TaskAt Seen)) (frames : List Frame) (choices : List ℕ) (steps : ℕ) (serves : ServesAlike plan barrier d (elsewhere us frames choices steps d)) (alike : AlikeTasks Free Other 0 d.tasks us) where
+module _ (plan : Plan) (barrier : ℕ → Sight → Result Bool Raise) (Free : Status → Type 0) (Served : Type 0) (Other : ℕ → Type 0) (d : All Seen) (free : Free Running → AreIdle d) (us : List (TaskAt Seen)) (frames : List Frame) (choices : List ℕ) (steps : ℕ) (serves : Served → ServesAlike plan barrier d (elsewhere us frames choices steps d)) (alike : AlikeTasks Free Served Other 0 d.tasks us) where
   abbrev there : All Seen
   there = elsewhere us frames choices steps d
 
-  ended_there : (n : ℕ) (ts vs : List (TaskAt Seen)) → AlikeTasks Free Other n ts vs → has_ended plan barrier ts ≡ has_ended plan barrier vs
+  ended_there : (n : ℕ) (ts vs : List (TaskAt Seen)) → AlikeTasks Free Served Other n ts vs → has_ended plan barrier ts ≡ has_ended plan barrier vs
   ended_there n [] [] h = refl
   ended_there n [] (v ∷ vs) h = absurd h
   ended_there n (t ∷ ts) [] h = absurd h
@@ -320,35 +349,35 @@ module _ (plan : Plan) (barrier : ℕ → Sight → Result Bool Raise) (Free : T
 
   -- and its own statements go on at the next step of a task in both, or in neither
   pub acting_there : (n : ℕ) → is_acting (turn_at plan barrier (slice_get d.tasks n) n d) ≡ is_acting (turn_at plan barrier (slice_get us n) n there)
-  acting_there n = acts_there plan barrier Free d free us frames choices steps serves (owns_alike Free Other 0 d.tasks us alike) Other n 0 n d.tasks us (omega arith) alike
+  acting_there n = acts_there plan barrier Free Served d free us frames choices steps serves (owns_alike Free Served Other 0 d.tasks us alike) Other n 0 n d.tasks us (omega arith) alike
 
 -- nothing differs
-module _ (plan : Plan) (barrier : ℕ → Sight → Result Bool Raise) (Free : Type 0) (d : All Seen) (free : Free → d.shared.objects ≡ []) (us : List (TaskAt Seen)) (frames : List Frame) (choices : List ℕ) (steps : ℕ) (serves : ServesAlike plan barrier d (elsewhere us frames choices steps d)) (alike : AlikeTasks Free (λ k. ⊥) 0 d.tasks us) where
+module _ (plan : Plan) (barrier : ℕ → Sight → Result Bool Raise) (Free : Status → Type 0) (Served : Type 0) (d : All Seen) (free : Free Running → AreIdle d) (us : List (TaskAt Seen)) (frames : List Frame) (choices : List ℕ) (steps : ℕ) (serves : Served → ServesAlike plan barrier d (elsewhere us frames choices steps d)) (alike : AlikeTasks Free Served (λ k. ⊥) 0 d.tasks us) where
   abbrev same_there : All Seen
-  same_there = there plan barrier Free (λ k. ⊥) d free us frames choices steps serves alike
+  same_there = there plan barrier Free Served (λ k. ⊥) d free us frames choices steps serves alike
 
   pub moves_there : moves plan barrier d ≡ moves plan barrier same_there
-  moves_there = ap (λ b. moves_by plan barrier b d.shared.cut d) (as_ended plan barrier Free (λ k. ⊥) d free us frames choices steps serves alike) ∙ by (has_ended plan barrier us) d.shared.cut
+  moves_there = ap (λ b. moves_by plan barrier b d.shared.cut d) (as_ended plan barrier Free Served (λ k. ⊥) d free us frames choices steps serves alike) ∙ by (has_ended plan barrier us) d.shared.cut
     where
       by : (ended cut : Bool) → moves_by plan barrier ended cut d ≡ moves_by plan barrier ended cut same_there
       by true cut = refl
       by false true = refl
-      by false false = all_there plan barrier Free d free us frames choices steps serves (owns_alike Free (λ k. ⊥) 0 d.tasks us alike) 0 d.tasks us alike
+      by false false = all_there plan barrier Free Served d free us frames choices steps serves (owns_alike Free Served (λ k. ⊥) 0 d.tasks us alike) 0 d.tasks us alike
 
 -- nothing differs of the task of a number
-module _ (plan : Plan) (barrier : ℕ → Sight → Result Bool Raise) (Free : Type 0) (of : ℕ) (d : All Seen) (free : Free → d.shared.objects ≡ []) (us : List (TaskAt Seen)) (frames : List Frame) (choices : List ℕ) (steps : ℕ) (serves : ServesAlike plan barrier d (elsewhere us frames choices steps d)) (alike : AlikeTasks Free (λ k. ¬ (k ≡ of)) 0 d.tasks us) where
+module _ (plan : Plan) (barrier : ℕ → Sight → Result Bool Raise) (Free : Status → Type 0) (Served : Type 0) (of : ℕ) (d : All Seen) (free : Free Running → AreIdle d) (us : List (TaskAt Seen)) (frames : List Frame) (choices : List ℕ) (steps : ℕ) (serves : Served → ServesAlike plan barrier d (elsewhere us frames choices steps d)) (alike : AlikeTasks Free Served (λ k. ¬ (k ≡ of)) 0 d.tasks us) where
   abbrev Different : ℕ → Type 0
   Different k = ¬ (k ≡ of)
 
   abbrev other_there : All Seen
-  other_there = there plan barrier Free Different d free us frames choices steps serves alike
+  other_there = there plan barrier Free Served Different d free us frames choices steps serves alike
 
   pub first_still : (others : List Move) → moves plan barrier d ≡ own_move of ∷ others → (more : List Move) × (moves plan barrier other_there ≡ own_move of ∷ more) × (others ≡ [] → more ≡ [])
   first_still others first =
-      let is = as_ended plan barrier Free Different d free us frames choices steps serves alike in
+      let is = as_ended plan barrier Free Served Different d free us frames choices steps serves alike in
       by (has_ended plan barrier us) d.shared.cut (sym (ap (λ b. moves_by plan barrier b d.shared.cut d) is) ∙ first)
     where
       by : (ended cut : Bool) → moves_by plan barrier ended cut d ≡ own_move of ∷ others → (more : List Move) × (moves_by plan barrier ended cut other_there ≡ own_move of ∷ more) × (others ≡ [] → more ≡ [])
       by true cut h = absurd cc
       by false true h = absurd cc
-      by false false h = first_there plan barrier Free d free us frames choices steps serves (owns_alike Free Different 0 d.tasks us alike) of 0 d.tasks us others alike h
+      by false false h = first_there plan barrier Free Served d free us frames choices steps serves (owns_alike Free Served Different 0 d.tasks us alike) of 0 d.tasks us others alike h

@@ -1,5 +1,5 @@
 -- What a task does at its next step, by what is read of it.
-use Rattle.std.proofs.Common.{◌≡◌, ℕ, Option, Some, None, Bool, true, false, if◌then◌else◌, ◌||◌, refl, ap, ◌∙◌}
+use Rattle.std.proofs.Common.{◌≡◌, ℕ, Option, None, Bool, true, false, if◌then◌else◌, ◌||◌, refl, ap, ◌∙◌}
 use Rattle.aud_typed.specs.Tree.{Plan}
 use Rattle.aud_meaning.specs.declared.state.Serving.{Serving}
 use Rattle.aud_meaning.specs.declared.state.Status.{Status}

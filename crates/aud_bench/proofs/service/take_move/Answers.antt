@@ -1,9 +1,8 @@
 use Rattle.std.proofs.Common.{Option, subst, arith}
 use Rattle.std.specs.Prelude.{slice_get}
 use Rattle.aud_meaning.specs.Run.{moves_in}
-use Rattle.aud_tasks.specs.declared.run.Ran.{Ran}
 use Rattle.aud_machine.specs.Shown.{program_in}
-use Rattle.aud_machine.specs.Shows.{Takes, IfShows}
+use Rattle.aud_machine.specs.Shows.{Ran, Takes, IfShows}
 use Rattle.aud_bench.proofs.Serving.{no_step, no_move, is_taken}
 use Rattle.aud_bench.proofs.service.take_move.Goals as goal
 

@@ -7,7 +7,7 @@ use Rattle.aud_meaning.specs.Listings.{alternative_word, word}
 use Rattle.aud_meaning.specs.Parts.{own_of}
 use Rattle.aud_code.specs.Flat.{barrier_at}
 use Rattle.aud_debug.specs.Ties.Rows.{task_head}
-use Rattle.aud_tasks.specs.Shown.{step_in}
+use Rattle.aud_machine.specs.Tasking.{step_in}
 use Rattle.aud_debug.proofs.Grouped.{move_grouped}
 use Rattle.aud_debug.proofs.moves.push_line.Goals as goal
 

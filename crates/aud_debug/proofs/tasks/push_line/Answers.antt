@@ -5,7 +5,7 @@ use Rattle.aud_typed.specs.Ties.View.{plain_program}
 use Rattle.aud_meaning.specs.declared.state.NextStep.{NextStep}
 use Rattle.aud_meaning.specs.Parts.{own_of}
 use Rattle.aud_debug.specs.Ties.Rows.{status_words, task_head}
-use Rattle.aud_tasks.specs.Shown.{step_in}
+use Rattle.aud_machine.specs.Tasking.{step_in}
 use Rattle.aud_debug.proofs.Grouped.{task_grouped}
 use Rattle.aud_debug.proofs.tasks.push_line.Goals as goal
 

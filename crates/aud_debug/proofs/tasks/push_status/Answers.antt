@@ -4,7 +4,7 @@ use Rattle.aud_typed.specs.Ties.View.{plain_program}
 use Rattle.aud_meaning.specs.Listings.{abnormal_word}
 use Rattle.aud_meaning.specs.Parts.{own_of}
 use Rattle.aud_code.specs.Flat.{barrier_at}
-use Rattle.aud_tasks.specs.Shown.{status_in}
+use Rattle.aud_machine.specs.Tasking.{status_in}
 use Rattle.aud_debug.proofs.tasks.push_status.Goals as goal
 
 pub returns : goal.returns

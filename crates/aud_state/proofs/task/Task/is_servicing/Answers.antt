@@ -8,4 +8,4 @@ pub returns-in-None : goal.returns-in-None
 returns-in-None c = λ plan barrier.
     c.is_serving.ensures plan barrier
     ∙ ap (λ (s : Stack). any (is_served plan barrier) s.opened) c.stack.ensures
-    ∙ sym (ap (λ x. serves_now plan barrier x c.args.self.now.parked.stack.opened) c.in-None.is)
+    ∙ sym (ap (λ x. serves_now plan barrier x c.args.self.now.parked.stack.opened) (sym c.serving.ensures ∙ c.in-None.is))

@@ -12,6 +12,6 @@ pub returns : goal.returns
 returns c = λ frame.
     let before = c.args.kept.now.items in
     let named = c.names.new.into.items in
-    kept_more frame before named c.extend_from_slice.new.self.items c.args.self.now.masters.items (own_names frame (plain_task c.args.self.now).own) (is_terminated c.args.self.now.status)
+    kept_more frame before named c.extend_from_slice.new.self.items c.args.self.now.masters.items (own_names frame (plain_task c.args.self.now).own) (is_terminated c.args.self.now.condition.status)
     (subst (λ (s : Stack). contains frame named ≡ (contains frame before || (contains frame s.display || opened_name frame s.opened))) c.stack.ensures (c.in_ok-names.ensures frame))
     (c.in_ok-extend_from_slice.ensures.items ∙ ap (λ l. named ++ l) c.masters_held.ensures)

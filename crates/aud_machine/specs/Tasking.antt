@@ -1,0 +1,3 @@
+-- What who shows a machine has to know of its tasks.
+pub use Rattle.aud_tasks.specs.Shown.{status_in, step_in, words_of}
+pub use Rattle.aud_tasks.specs.Turning.{seen_in}
