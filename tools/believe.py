@@ -1,8 +1,9 @@
-"""Lists the definitions that the end-to-end theorem and the headline on many users are made of, in an order in which each stands behind those that it uses.
+"""Lists the definitions that the theorem on one user and the headline on many are made of, in an order in which each
+stands behind those that it uses.
 
-The theorem is the contract of `solo`; its words are `text`, `alone` and `requests`. The headline is a law of `aud_worlds`. From there the imports are followed
-through the folders specs/. What is not reached ties contracts to these words, or says why they are right: it stands in Ties/ or
-Why/, or in what TYING and TYING_MODULES name, and this script stops where a file stands in the wrong folder.
+The roots are the words of `solo`, `program`, `HeadlineLaw` and `LastLaw`. From there the imports are followed through the
+folders specs/. What is not reached ties contracts to these words, or says why they are right: it stands in Ties/ or Why/,
+or in what TYING and TYING_MODULES name, and this script stops where a file stands in the wrong folder.
 usage: believe.py [--ties]
 """
 import os

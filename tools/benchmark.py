@@ -67,28 +67,14 @@ class Loop:
     lua: str
 
 
-LOOPS = [
-    Loop(
-        "counting, two assignments",
-        300_000,
-        900_005,
-        """procedure B is
-X, Y : Integer := 0;
-begin
-while X < 300000 loop
-X := X + 1;
-Y := X - Y;
-end loop;
-end B;
-""",
-        """
+COUNTING_PYTHON = """
 def loop():
     x, y = 0, 0
     while x < 300000:
         x = x + 1
         y = x - y
-""",
-        """
+"""
+COUNTING_LUA = """
 local function loop()
   local x, y = 0, 0
   while x < 300000 do
@@ -96,8 +82,21 @@ local function loop()
     y = x - y
   end
 end
-""",
-    ),
+"""
+
+
+def counting(name, steps, before, behind):
+    """The loop that counts and makes two assignments, within other lines of a program."""
+    lines = ["while X < 300000 loop", "X := X + 1;", "Y := X - Y;", "end loop;"]
+    return Loop(name, 300_000, steps, "\n".join(["procedure B is", *before, *lines, *behind, "end B;", ""]), COUNTING_PYTHON, COUNTING_LUA)
+
+
+X_AND_Y = "X, Y : Integer := 0;"
+LOOPS = [
+    counting("counting, two assignments", 900_005, [X_AND_Y, "begin"], []),
+    counting("counting, in a task", 900_011, ["task T;", "task body T is", X_AND_Y, "begin"], ["end T;", "begin null;"]),
+    counting("counting, in a procedure", 900_007, ["procedure P is", X_AND_Y, "begin"], ["end P;", "begin P;"]),
+    counting("counting, in a block", 900_007, ["begin", "declare", X_AND_Y, "begin"], ["end;"]),
     Loop(
         "counting, with a handler around it",
         300_000,
@@ -136,6 +135,31 @@ local function loop()
   end) then
     x = 0
   end
+end
+""",
+    ),
+    Loop(
+        "for, a sum",
+        300_000,
+        600_004,
+        """procedure B is
+S : Integer := 0;
+begin
+for I in 1 .. 300000 loop
+S := I - S;
+end loop;
+end B;
+""",
+        """
+def loop():
+    s = 0
+    for i in range(300000):
+        s = i - s
+""",
+        """
+local function loop()
+  local s = 0
+  for i = 1, 300000 do s = i - s end
 end
 """,
     ),

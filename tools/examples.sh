@@ -1,6 +1,7 @@
 #!/bin/sh
-# Whether the sessions of examples/ are those of crates/aud_session_tests/data/examples.txt, which the gate runs: `rt ci` reads the folders of crates
-# alone, and whether all files of sessions are looked at. With a folder it writes all of them there, one after the other and a QUIT, as `stdin`, and what is answered as `stdout`.
+# Whether the sessions of examples/ are those of crates/aud_session_tests/data/examples.txt, which the gate runs (`rt ci`
+# reads the folders of crates alone), and whether all files of sessions are looked at. With a folder it writes all of
+# them there, one after the other and a QUIT, as `stdin`, and what is answered as `stdout`.
 set -eu
 cd "$(dirname "$0")/../examples"
 sessions="first loop array recursion tasks steps rendezvous select buffer barrier abort evens watch"

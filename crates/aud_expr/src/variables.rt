@@ -15,6 +15,7 @@ use aud_typed::program::{Subtype, Variable};
 use std::alloc::AllocError;
 
 /// What a variable's cell holds, or 0 where there is none.
+#[inline(always)]
 pub fn value_of(variable: Variable, display: &[usize], frames: &Frames) -> Int32
     ensures { InFrames display.now frames.now (λ s. result ≡ cell variable s.sight) }
 {
@@ -60,6 +61,7 @@ fn cell_seen(frames: &Frames, frame: usize, index: usize, operands: &Operands) -
 }
 
 // What a cell of a frame holds, or 0 where there is none.
+#[inline(always)]
 fn cell_in(frames: &Frames, frame: usize, index: usize) -> Int32
     ensures { result ≡ slice_index_or (slice_index_or frames.now frame []) index (pos 0) }
 {
@@ -97,8 +99,9 @@ fn frame_seen(display: &[usize], level: usize, frames: &Frames, operands: &Opera
     }
 }
 
-// The number of the frame at a level, or 0 where none is seen there.
-fn frame_of(display: &[usize], level: usize) -> usize
+/// The number of the frame at a level, or 0 where none is seen there.
+#[inline(always)]
+pub fn frame_of(display: &[usize], level: usize) -> usize
     ensures { result ≡ slice_index display.now level }
 {
     display.get(level).copied().unwrap_or(0)

@@ -1,11 +1,10 @@
 // What a task has by itself while it is worked on, with what all tasks share of the store and the run.
 
-ghost use Rattle.std.specs.Prelude.{◌≡◌, ◌<◌, ◌≤◌, ◌+◌, ◌++◌, ◌∷◌, [], length, replicate, suc, None, false, IsTrue, OnOk};
+ghost use Rattle.std.specs.Prelude.{◌≡◌, ◌<◌, ◌≤◌, ◌+◌, ◌++◌, ◌∷◌, [], length, replicate, suc, None, false, OnOk};
 ghost use Rattle.aud_meaning.specs.Effects.{innermost};
 ghost use Rattle.aud_meaning.specs.Ties.Stack.{closed};
 ghost use Rattle.aud_code.specs.Sound.{IsStart};
 ghost use Rattle.aud_code.specs.Starts.{IsPlace};
-ghost use Rattle.aud_expr.specs.Fused.{SeesMain};
 ghost use Rattle.aud_store.specs.Ties.Frames.{only_named};
 ghost use Rattle.aud_store.specs.Ties.Stored.{declared, entered, plain_purpose, IsInner};
 ghost use Rattle.aud_store.specs.Ties.Stored as store;
@@ -21,7 +20,7 @@ mod opening;
 pub mod parked;
 mod tasks;
 
-use crate::fast::{FastRun, fast_run_with};
+use crate::fast::{FastRun, fast_run};
 use aud_code::line::Way;
 use aud_code::sound_code::SoundCode;
 use aud_meaning::state::Pending;
@@ -306,14 +305,6 @@ impl Progress {
         self.store.is_due()
     }
 
-    // Whether the variables of level 0 are those of the first frame.
-    fn sees_main(&self) -> bool
-        ensures display { IsTrue result → SeesMain self.now.stack.display }
-        ensures framed { IsTrue result → 0 < length self.now.frames }
-    {
-        self.store.display().first() == Some(&0) && 0 < self.store.frames().len()
-    }
-
     /// The next steps, at most n, for as long as each is done by fused instructions. It tells where they led, how many they were,
     /// and how many instructions they executed.
     pub fn run_fast(&mut self, code: &SoundCode, n: u32) -> FastRun
@@ -321,7 +312,7 @@ impl Progress {
         requires budget { self.old.steps + n ≤ STEPS }
         ensures runs { RunsFast code.now n self.old self.new result }
     {
-        if self.pending.is_none() && !self.cut && self.place < code.len() && self.sees_main() {
+        if self.pending.is_none() && !self.cut && self.place < code.len() {
             return self.run_free(code, n);
         }
         FastRun {
@@ -331,18 +322,15 @@ impl Progress {
         }
     }
 
-    // The same, where nothing keeps it from going on. The variables are taken out meanwhile.
+    // The same, where nothing keeps it from going on.
     fn run_free(&mut self, code: &SoundCode, n: u32) -> FastRun
         requires none { self.old.pending ≡ None }
         requires uncut { self.old.cut ≡ false }
         requires begins { IsStart code.now.lines self.old.control.place }
-        requires display { SeesMain self.old.stack.display }
-        requires framed { 0 < length self.old.frames }
         requires budget { self.old.steps + n ≤ STEPS }
         ensures runs { RunsFast code.now n self.old self.new result }
     {
-        let (run, cells) = fast_run_with(code, self.place, self.store.take_first(), n);
-        self.store.put_first(cells);
+        let run = fast_run(code, self.place, &mut self.store, n);
         self.place = run.place;
         self.steps += run.steps;
         run

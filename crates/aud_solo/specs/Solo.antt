@@ -62,8 +62,8 @@ pub record Serves {A : Type 0} (result : Result A SoloFault) (left remaining bef
   pub memory : IsErrOf result fault.Memory → HasRead left remaining (λ input. WritesCut before after (answers_to input))
   pub write : IsErrOf result fault.Write → HasRead left remaining (λ input. WritesPart before after (answers_to input))
 
--- What is read, however the call ends: bytes whose requests have no QUIT, and besides at most the bytes of one read. So nothing is read
--- behind a QUIT but what came with it.
+-- What is read, however the call ends: bytes whose requests have no QUIT, and besides at most as many bytes as one read has. So it stops
+-- within so many bytes of a QUIT.
 pub record StopsAtQuit (left remaining : Option (List ℕ)) : Type 0 where
   pub before : List ℕ
   pub piece : List ℕ

@@ -148,6 +148,7 @@ impl Display {
     }
 
     /// The numbers of the frames that are seen, outermost first.
+    #[inline(always)]
     pub(crate) fn numbers(&self) -> &[usize]
         ensures { result.now ≡ seen self.now }
     {

@@ -8,7 +8,6 @@ use crate::shelf::Shelf;
 use aud_text::int32::Int32;
 use std::alloc::{AllocError, Global};
 use std::marker::Model;
-use std::mem;
 
 // So many cells may come before it is worth a look which frames are over.
 const DUE: usize = 8_192;
@@ -70,6 +69,7 @@ impl Frames {
     }
 
     /// How many frames there are.
+    #[inline(always)]
     pub fn len(&self) -> usize
         ensures { result ≡ length self.now }
     {
@@ -77,6 +77,7 @@ impl Frames {
     }
 
     /// The variables of a frame, in the order of their declarations.
+    #[inline(always)]
     pub fn frame(&self, number: usize) -> &[Int32]
         requires { number < length self.now }
         ensures { slice_get self.now number ≡ Some result.now }
@@ -96,25 +97,8 @@ impl Frames {
         self.shelf.key(self.made, number)
     }
 
-    /// The variables of the first frame, which has none until others are put there.
-    pub fn take_first(&mut self) -> Vec<Int32>
-        requires { 0 < length self.old }
-        ensures taken { slice_get self.old 0 ≡ Some result.items }
-        ensures left { self.new ≡ with_frame 0 (λ vs. []) self.old }
-    {
-        let none = Vec::new(*self.first.allocator());
-        mem::replace(&mut self.first, none)
-    }
-
-    /// Other variables of the first frame.
-    pub fn put_first(&mut self, variables: Vec<Int32>)
-        requires { 0 < length self.old }
-        ensures { self.new ≡ with_frame 0 (λ vs. variables.items) self.old }
-    {
-        self.first = variables;
-    }
-
     /// A variable, or 0 where the frame has none of this number.
+    #[inline(always)]
     pub fn load(&self, frame: usize, index: usize) -> Int32
         requires { frame < length self.now }
         ensures { result ≡ slice_index_or (slice_index_or self.now frame []) index (pos 0) }
@@ -158,6 +142,7 @@ impl Frames {
     }
 
     /// Another value of a variable; where the frame has none of this number, nothing changes.
+    #[inline(always)]
     pub fn assign(&mut self, frame: usize, index: usize, value: Int32)
         requires { frame < length self.old }
         ensures { self.new ≡ with_frame frame (λ vs. slice_set vs index value) self.old }

@@ -42,6 +42,7 @@ impl Shelf {
     }
 
     /// The key of the frame of a number, if it is kept. So many frames were made.
+    #[inline(always)]
     pub(crate) fn key(&self, made: usize, number: usize) -> Option<usize>
         requires { AllPairs Precedes self.now.kept.items }
         ensures found { IfSome result (Keeps self.now.kept.items number) }
@@ -159,6 +160,7 @@ impl Shelf {
 
     // Where the frame of a number stands, or else where it would. The frames that were made last are mostly kept without a gap: the
     // place that follows from that is looked at first.
+    #[inline(always)]
     fn find(&self, made: usize, number: usize) -> Result<usize, usize>
         requires { AllPairs Precedes self.now.kept.items }
         ensures found { IfOk result (IsAt self.now.kept.items number) }

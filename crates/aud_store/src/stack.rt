@@ -407,6 +407,7 @@ impl Stack {
     }
 
     /// The numbers of the frames that are seen, outermost first.
+    #[inline(always)]
     pub fn display(&self) -> &[usize]
         ensures { result.now ≡ self.now.display }
     {

@@ -1,11 +1,11 @@
 // All frames ever made, and those that are open.
 
-ghost use Rattle.std.specs.Prelude.{◌≡◌, ◌<◌, ◌∷◌, ◌++◌, [], None, suc, pos, length, replicate, nat_le, IsNone, OnOk, OnErr, IfOk, slice_get, slice_index_or};
+ghost use Rattle.std.specs.Prelude.{◌≡◌, ◌<◌, ◌∷◌, ◌++◌, [], None, suc, pos, length, replicate, nat_le, IsNone, OnOk, OnErr, IfOk, slice_index_or};
 ghost use Rattle.aud_text.specs.declared.limits.TheConstants.{FRAMES};
 ghost use Rattle.aud_meaning.specs.Evaluation.{frame_at};
 ghost use Rattle.aud_meaning.specs.Effects.{innermost, elaborated_in, handled, live_frames};
 ghost use Rattle.aud_meaning.specs.Ties.Stack.{closed, closed_times};
-ghost use Rattle.aud_store.specs.Ties.Frames.{only_named, with_frame};
+ghost use Rattle.aud_store.specs.Ties.Frames.{only_named};
 ghost use Rattle.aud_store.specs.Ties.Stored.{copies_of, declared, entered_after, innermost_cell};
 ghost use Rattle.aud_store.specs.Ties.Stored.{kept_by, plain_purpose, stored, with_function_value, IsInnermost};
 
@@ -238,6 +238,7 @@ impl Store {
     }
 
     /// Another value of a cell; where there is none of this number, nothing changes.
+    #[inline(always)]
     pub fn assign(&mut self, frame: usize, index: usize, value: Int32)
         ensures { self.new ≡ stored frame index value self.old }
     {
@@ -247,6 +248,7 @@ impl Store {
     }
 
     /// The numbers of the frames that are seen, outermost first.
+    #[inline(always)]
     pub fn display(&self) -> &[usize]
         ensures { result.now ≡ self.now.stack.display }
     {
@@ -254,31 +256,11 @@ impl Store {
     }
 
     /// All frames ever made, by their numbers.
+    #[inline(always)]
     pub fn frames(&self) -> &Frames
         ensures { result.now ≡ self.now.frames }
     {
         &self.frames
-    }
-
-    /// The cells of the first frame, which has none until others are put there.
-    pub fn take_first(&mut self) -> Vec<Int32>
-        requires { 0 < length self.old.frames }
-        ensures taken { slice_get self.old.frames 0 ≡ Some result.items }
-        ensures left { self.new ≡ record self.old {
-          frames = with_frame 0 (λ cells. []) self.old.frames;
-        } }
-    {
-        self.frames.take_first()
-    }
-
-    /// Other cells of the first frame.
-    pub fn put_first(&mut self, cells: Vec<Int32>)
-        requires { 0 < length self.old.frames }
-        ensures { self.new ≡ record self.old {
-          frames = with_frame 0 (λ frame. cells.items) self.old.frames;
-        } }
-    {
-        self.frames.put_first(cells);
     }
 
     /// The key under which the cells of a frame lie; none for the first frame and for one that was given back.
