@@ -12,7 +12,7 @@ there may be, of which each read gives a byte, and how the time grows from a qua
 Halls: steps a second of many seats that take turns beside those of one bench, and the memory of a seat at which nothing is to be done.
 Desk: steps a second of the listening program with all seats busy, by several numbers of workers, beside those of one bench.
 Each figure is the median of several processes, which take turns. tools/check calls it.
-usage: benchmark.py PROGRAM WORLDS, or benchmark.py desk PROGRAM, or benchmark.py views PROGRAM
+usage: benchmark.py PROGRAM WORLDS, or benchmark.py desk PROGRAM, likewise views and loops
 """
 import os
 import shutil
@@ -751,15 +751,28 @@ def desk(program):
         print(f"    {name:11}{fast(median(busy))}   {beside}   {median(parts):.2f} ({half})", flush=True)
 
 
+def found(folder):
+    """The other interpreters that are there. A script of theirs lies in the folder."""
+    others = {"python3": Other([sys.executable, "-c"], lambda loop: loop.python + PYTHON_LOOP, PYTHON_LOAD)}
+    lua = shutil.which("lua5.4")
+    if lua:
+        script = f"{folder}/run.lua"
+        with open(script, "w") as file:
+            file.write("local text = table.remove(arg, 1)\nload(text)()\n")
+        others["lua5.4"] = Other([lua, script], lambda loop: loop.lua + LUA_LOOP, LUA_LOAD)
+    return others
+
+
+def alone(program):
+    """Loops and tasks alone."""
+    with tempfile.TemporaryDirectory() as folder:
+        loops(program, found(folder))
+    tasks(program)
+
+
 def main(program, worlds):
     with tempfile.TemporaryDirectory() as folder:
-        others = {"python3": Other([sys.executable, "-c"], lambda loop: loop.python + PYTHON_LOOP, PYTHON_LOAD)}
-        lua = shutil.which("lua5.4")
-        if lua:
-            script = f"{folder}/run.lua"
-            with open(script, "w") as file:
-                file.write("local text = table.remove(arg, 1)\nload(text)()\n")
-            others["lua5.4"] = Other([lua, script], lambda loop: loop.lua + LUA_LOOP, LUA_LOAD)
+        others = found(folder)
         loops(program, others)
         tasks(program)
         views(program)
@@ -775,5 +788,7 @@ if sys.argv[1] == "desk":
     desk(sys.argv[2])
 elif sys.argv[1] == "views":
     views(sys.argv[2])
+elif sys.argv[1] == "loops":
+    alone(sys.argv[2])
 else:
     main(sys.argv[1], sys.argv[2])
