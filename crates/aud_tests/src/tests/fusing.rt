@@ -38,13 +38,6 @@ const STEPS_AT_ONCE: [&str; 20] = [
     "apart",
 ];
 
-// Loops in a task, a procedure, a block and a `for` loop, with variables of their own and of the main procedure. Of these, eight
-// statements are steps at once, and the null statement of the body that none has.
-const BODIES: &[u8] =
-    b"procedure M is G : Integer := 0; task T; task body T is X : Integer := 0; begin while X < 9 loop X := X + 1; G := G - X; end loop; end T; procedure P is Y : Integer := 0; begin while Y < 9 loop Y := Y + 1; end loop; end P; begin P; declare Z : Integer := 0; begin while Z < 9 loop Z := Z + 1; end loop; end; for I in 1 .. 9 loop G := I - G; end loop; end M;\n";
-
-const BODIES_AT_ONCE: usize = 9;
-
 // Each has a word of its own.
 fn word(fused: Fused) -> &'static str {
     match fused {
@@ -107,23 +100,5 @@ fn fuses_whole_steps(rt: HostRuntime) -> Result<(), Fail> {
     let program = loaded(rt.alloc(), LOOPS)?;
     let code = generate(rt.alloc(), &program)?;
     begins_as_told(&rt, &code, &STEPS_AT_ONCE);
-    Ok(())
-}
-
-fn steps_at_once(code: &SoundCode) -> usize {
-    let mut count = 0;
-    for place in 0..code.len() {
-        if code.begins(place) && !matches!(code.fused(place), Fused::Apart) {
-            count += 1;
-        }
-    }
-    count
-}
-
-#[test]
-fn fuses_steps_of_every_body(rt: HostRuntime) -> Result<(), Fail> {
-    let program = loaded(rt.alloc(), BODIES)?;
-    let code = generate(rt.alloc(), &program)?;
-    assert!(rt; steps_at_once(&code) == BODIES_AT_ONCE);
     Ok(())
 }
