@@ -1,9 +1,10 @@
 // The bodies of a protected object's operations and entries: what is checked before their declarations.
 
-ghost use Rattle.std.specs.Prelude.{◌≡◌, ◌++◌, map, is_some, if◌then◌else◌, IfOk, OnOk};
+ghost use Rattle.std.specs.Prelude.{◌≡◌, ◌++◌, ◌∷◌, map, is_some, if◌then◌else◌, IfOk, OnOk};
 ghost use Rattle.std.specs.Option.{option_copied};
 ghost use Rattle.aud_syntax.specs.Ties.View.{plain_formal};
 ghost use Rattle.aud_fault.specs.Least.{noted};
+ghost use Rattle.aud_names.specs.declared.names.Access.TheVariants as access;
 ghost use Rattle.aud_names.specs.Objects.{part_in, object_place, first_with, is_unit};
 ghost use Rattle.aud_names.specs.Ties.Regions.{plain_region, plain_regions, plain_place};
 ghost use Rattle.aud_typing.specs.Ties.Typing.{Leaves as Shown};
@@ -17,7 +18,9 @@ use crate::within::{Leaves, regions_within};
 use aud_fault::fault::Least;
 use aud_names::awaited::{AwaitedPart, index_of_unit};
 use aud_names::behind::{Made, both};
-use aud_names::names::{Access, NamedParameter, Region, Scope, Subprogram, frame_within};
+use aud_names::names::{
+    Access, NamedParameter, Region, Scope, Subprogram, frame_within, task_within,
+};
 use aud_names::objects::{around_object, barrier_region, body_instance, object_region};
 use aud_names::parts::{ObjectPart, Part, PartKind, part_in};
 use aud_names::rules::{agree, conform, formals_conform, no_matching_body};
@@ -52,6 +55,42 @@ pub fn object_body(
     let around = around_object(name, instance, region, outer)?;
     let own = object_region(instance, region, outer)?;
     Ok(ObjectBody { own, around })
+}
+
+/// The same of its procedures and entries, and of its functions.
+#[inline(never)]
+pub fn object_bodies(
+    name: &Name,
+    object: usize,
+    region: &Region,
+    outer: &[&Region],
+) -> Made<(ObjectBody, ObjectBody)>
+    ensures inside { IfOk result (λ bodies. body_place bodies.0 region.now outer.now
+        ≡ object_place name.now object access.Inside (plain_place region.now outer.now)) }
+    ensures in_function { IfOk result (λ bodies. body_place bodies.1 region.now outer.now
+        ≡ object_place name.now object access.InFunction (plain_place region.now outer.now)) }
+{
+    let inside = object_body(name, object, Access::Inside, region, outer)?;
+    let in_function = object_body(name, object, Access::InFunction, region, outer);
+    both(inside, in_function)
+}
+
+/// The regions around both, in the region that declares the object and lies within these.
+#[inline(never)]
+pub fn around_bodies<'a>(
+    inside: &'a ObjectBody,
+    in_function: &'a ObjectBody,
+    region: &'a Region,
+    outer: &'a [&'a Region],
+) -> Made<(Vec<&'a Region>, Vec<&'a Region>)>
+    ensures inside { IfOk result (λ regions. plain_regions regions.0.items
+        ≡ plain_region inside.now.around ∷ (plain_place region.now outer.now).regions) }
+    ensures in_function { IfOk result (λ regions. plain_regions regions.1.items
+        ≡ plain_region in_function.now.around ∷ (plain_place region.now outer.now).regions) }
+{
+    let around = task_within(&inside.around, region, outer)?;
+    let around_function = task_within(&in_function.around, region, outer);
+    both(around, around_function)
 }
 
 /// Whether it is a function's.

@@ -64,11 +64,12 @@ use crate::object::without_object_bodies;
 use crate::object::without_part_bodies;
 use crate::operation::DeclaredParts;
 use crate::operation::Shape;
+use crate::operation::around_bodies;
 use crate::operation::body_shape;
 use crate::operation::head_leaves;
 use crate::operation::is_function;
 use crate::operation::matched;
-use crate::operation::object_body;
+use crate::operation::object_bodies;
 use crate::operation::place_of;
 use crate::select::accepting;
 use crate::select::call_head;
@@ -86,13 +87,13 @@ use crate::value::assignment;
 use crate::within::Entering;
 use crate::within::Leaves;
 use crate::within::Within;
+use crate::within::regions_within;
 use aud_fault::fault::Least;
 use aud_names::awaited::AwaitedPart;
 use aud_names::behind::Left;
 use aud_names::behind::Made;
 use aud_names::behind::both;
 use aud_names::behind::push;
-use aud_names::names::Access;
 use aud_names::names::Region;
 use aud_names::names::Scope;
 use aud_names::names::frame_within;
@@ -277,18 +278,22 @@ fn for_loop<'a>(
         (plain_tables tables.old)) }
 {
     let scope = within.scope;
-    let bounds = bounds(parameter, scope, faults)?;
     let outer = scope.regions()?;
     let own = loop_region(&parameter.name, scope)?;
     let region = tables.enter(&own)?;
+    let bounds = bounds(parameter, scope, faults)?;
+    let among = Scope::new(&own, &outer);
     let inner = Within {
-        scope: &Scope::new(&own, &outer),
+        scope: &among,
         labels: within.labels,
         in_handler: within.in_handler,
         leaves: within.leaves,
         accepting: within.accepting,
     };
     let body = loop_body(node, inner, tables, faults);
+    drop(among);
+    drop(outer);
+    drop(own);
     let (bounds, body) = both(bounds, body)?;
     let at = begin_at(&node.label, node.at);
     let head = For {
@@ -353,14 +358,20 @@ fn accept<'a>(
     let outer = scope.regions()?;
     let region = tables.enter(&head.region)?;
     let accepting = with_accepted(alloc, head.entry, around)?;
+    let among = Scope::new(&head.region, &outer);
     let inner = Within {
-        scope: &Scope::new(&head.region, &outer),
+        scope: &among,
         labels: &[],
         in_handler: within.in_handler,
         leaves: Leaves::Procedure,
         accepting: &accepting,
     };
-    let parts = body(source, inner, tables, faults)?;
+    let parts = body(source, inner, tables, faults);
+    drop(among);
+    drop(outer);
+    drop(head);
+    drop(accepting);
+    let parts = parts?;
     right_name_at_end(&node.name.name, &source.name, faults);
     accept_doing(alloc, node.at, entry, region, source, parts)
 }
@@ -512,11 +523,14 @@ fn block_statement<'a>(
     };
     let number = tables.next_region();
     let part = declared(&node.declarations, region, &outer, tables, faults)?;
-    let body = body_behind(part, &node.body, entering, tables, faults)?;
+    let body = body_behind(part, &node.body, entering, tables, faults);
+    drop(labels);
+    drop(outer);
+    let body = body?;
     block_of(alloc, begin_at(&node.label, node.at), number, body)
 }
 
-/// The declarations of a region that is entered: notes their faults, and answers the part behind them, whose names are
+/// The declarations of a region that is entered (RM 3.11): notes their faults, and answers the part behind them, whose names are
 /// in the tables.
 #[cycle(statement)]
 #[inline(never)]
@@ -539,7 +553,9 @@ pub fn declared<'a>(
         region,
         elaborations: Vec::new(alloc),
     };
-    declarations(source, outer, &mut part, tables, faults)?;
+    for next in source {
+        declaration(next, outer, &mut part, tables, faults)?;
+    }
     without_bodies(&part.region.awaited, faults);
     without_object_bodies(&part.region.objects, faults);
     tables.name_region(number, &part.region)?;
@@ -566,17 +582,21 @@ pub fn body_behind<'a>(
         region,
         mut elaborations,
     } = part;
+    let alloc = region.alloc;
     let activates = with_activation(entering.of_task, node.begin, &mut elaborations)?;
+    let scope = Scope::new(&region, entering.outer);
     let within = Within {
-        scope: &Scope::new(&region, entering.outer),
+        scope: &scope,
         labels: entering.labels,
         in_handler: entering.in_handler,
         leaves: entering.leaves,
         accepting: entering.accepting,
     };
     let parts = body(node, within, tables, faults);
+    drop(scope);
+    drop(region);
     let (elaborations, parts) = both(elaborations, parts)?;
-    body_of(region.alloc, node, elaborations, activates, parts)
+    body_of(alloc, node, elaborations, activates, parts)
 }
 
 // The declarations of a procedure's body, in the region of its formals.
@@ -631,7 +651,9 @@ fn procedure<'a>(
         accepting: &[],
         of_task: false,
     };
-    let body = body_behind(inner, &node.body, entering, tables, faults)?;
+    let body = body_behind(inner, &node.body, entering, tables, faults);
+    drop(regions);
+    let body = body?;
     right_name_at_end(&node.name.name, &node.body.name, faults);
     let unit = unit_of(alloc, level, own, false, node.at, body)?;
     tables.put_unit(number, Box::into_inner(unit));
@@ -688,7 +710,10 @@ fn task_body<'a>(
         accepting: &[],
         of_task: true,
     };
-    let body = body_behind(inner, &node.body, entering, tables, faults)?;
+    let body = body_behind(inner, &node.body, entering, tables, faults);
+    drop(regions);
+    drop(running);
+    let body = body?;
     right_name_at_end(&node.name.name, &node.body.name, faults);
     let unit = unit_of(alloc, level, own, false, node.at, body)?;
     tables.put_unit(numbers.unit, Box::into_inner(unit));
@@ -753,7 +778,7 @@ fn operation_body<'a>(
         returned,
     } = shape;
     drop(profile);
-    let regions = Scope::new(own, outer).regions()?;
+    let regions = regions_within(own, outer)?;
     let level = region.level;
     let own_region = tables.next_region();
     let inner = operation_part(node, region, &regions, tables, faults)?;
@@ -765,7 +790,9 @@ fn operation_body<'a>(
         accepting: &[],
         of_task: false,
     };
-    let body = body_behind(inner, &node.body, entering, tables, faults)?;
+    let body = body_behind(inner, &node.body, entering, tables, faults);
+    drop(regions);
+    let body = body?;
     right_name_at_end(&ident.name, &node.body.name, faults);
     let unit = unit_of(alloc, level, own_region, is_function(kind), node.at, body)?;
     tables.put_unit(number, Box::into_inner(unit));
@@ -773,29 +800,6 @@ fn operation_body<'a>(
 }
 
 // The bodies of an object's operations and entries, each in the object's region as it is seen there.
-#[cycle(statement)]
-fn operation_bodies<'a>(
-    bodies: &'a [OperationBody],
-    declared_parts: DeclaredParts<'_>,
-    inside: (&'a Region, &'a [&'a Region]),
-    in_function: (&'a Region, &'a [&'a Region]),
-    awaited: &mut Vec<AwaitedPart>,
-    tables: &mut Tables,
-    faults: &mut Least,
-) -> Made<()>
-    ensures { OnOk result (ChecksBodies faults.old faults.new awaited.new.items
-        (plain_tables tables.new) (checked_bodies (operation_body_list bodies.now)
-        (both_places declared_parts.entry inside.entry in_function.entry) awaited.old.items
-        (plain_tables tables.old))) }
-{
-    for next in bodies {
-        let (own, outer) = place_of(&next.kind, inside, in_function);
-        operation_body(next, declared_parts, own, outer, awaited, tables, faults)?;
-    }
-    Ok(())
-}
-
-// The bodies that stand in the body of an object.
 #[cycle(statement)]
 #[inline(never)]
 fn bodies_within<'a>(
@@ -813,16 +817,11 @@ fn bodies_within<'a>(
         (both_places declared_parts.entry inside.entry in_function.entry) awaited.old.items
         (plain_tables tables.old))) }
 {
-    let bodies = &node.bodies;
-    operation_bodies(
-        bodies,
-        declared_parts,
-        inside,
-        in_function,
-        awaited,
-        tables,
-        faults,
-    )
+    for next in &node.bodies {
+        let (own, outer) = place_of(&next.kind, inside, in_function);
+        operation_body(next, declared_parts, own, outer, awaited, tables, faults)?;
+    }
+    Ok(())
 }
 
 // The body of a protected object (RM 9.4(7)): adds the bodies of its operations and entries to the tables.
@@ -843,16 +842,14 @@ fn protected_body<'a>(
     let object = body_number(&node.name, &mut part.region, tables, faults)?;
     let region = &part.region;
     let name = &node.name.name;
-    let inside = object_body(name, object, Access::Inside, region, outer)?;
-    let in_function = object_body(name, object, Access::InFunction, region, outer)?;
-    let around = task_within(&inside.around, region, &*outer)?;
-    let around_function = task_within(&in_function.around, region, &*outer)?;
+    let (inside, in_function) = object_bodies(name, object, region, outer)?;
+    let (around, around_function) = around_bodies(&inside, &in_function, region, &*outer)?;
     let mut awaited = awaited_parts(region.alloc, &region.parts, object)?;
     let declared_parts = DeclaredParts {
         object,
         parts: &region.parts,
     };
-    bodies_within(
+    let checked = bodies_within(
         node,
         declared_parts,
         (&inside.own, &around),
@@ -860,7 +857,10 @@ fn protected_body<'a>(
         &mut awaited,
         tables,
         faults,
-    )?;
+    );
+    drop((around, around_function));
+    drop((inside, in_function));
+    let (awaited, ()) = both(awaited, checked)?;
     without_part_bodies(&awaited, faults);
     right_name_at_end(name, &node.end_name, faults);
     Ok(())
@@ -899,26 +899,6 @@ fn declaration<'a>(
         Declaration::Protected(node) => declare_protected(node, outer, part, tables, faults),
         Declaration::ProtectedBody(node) => protected_body(node, outer, part, tables, faults),
     }
-}
-
-// A declarative part (RM 3.11).
-#[cycle(statement)]
-fn declarations<'a>(
-    declarations: &'a [Declaration],
-    outer: &[&'a Region],
-    part: &mut DeclarativePart,
-    tables: &mut Tables,
-    faults: &mut Least,
-) -> Made<()>
-    ensures { OnOk result (Declares faults.old faults.new outer.now part.old part.new
-        (plain_tables tables.new)
-        (checked_declarations (plain_declarations declarations.now)
-        (plain_place part.old.region outer.now) (plain_tables tables.old))) }
-{
-    for next in declarations {
-        declaration(next, outer, part, tables, faults)?;
-    }
-    Ok(())
 }
 
 // The statements and handlers of a body (RM 11.2).

@@ -1,3 +1,4 @@
+pub mod AtHand
 pub mod Operands
 pub mod Flow
 pub mod Ticks

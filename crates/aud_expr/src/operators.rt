@@ -1,11 +1,31 @@
 // Operators of Integers and of truth values, and the ranges of subtypes.
 
-ghost use Rattle.std.specs.Prelude.{◌≡◌};
+ghost use Rattle.std.specs.Prelude.{◌≡◌, ◌+ℤ◌, IfSome, true};
 ghost use Rattle.aud_meaning.specs.Evaluation.{unary_of, binary_of, cell_of, truth_of, related, logical_of, in_range};
+ghost use Rattle.aud_meaning.specs.Step.{for_step, has_next};
 
 use aud_text::int32::Int32;
 use aud_text::raise::Raise;
 use aud_typed::program::{Binary, Logical, Relation, Subtype, Unary};
+
+/// The next value of a loop's parameter, unless its range has none (RM 5.5(9)).
+#[inline(always)]
+pub fn next_value(backward: bool, value: Int32, last: Int32) -> Option<Int32>
+    ensures { IfSome result (λ next. (has_next backward value last ≡ true) ×
+        (next ≡ value +ℤ for_step backward)) }
+{
+    let (value, last) = (value.get(), last.get());
+    if backward {
+        if value <= last {
+            return None;
+        }
+        return Some(Int32::new(value - 1));
+    }
+    if last <= value {
+        return None;
+    }
+    Some(Int32::new(value + 1))
+}
 
 #[inline(always)]
 pub fn unary_of(operator: Unary, x: Int32) -> Result<Int32, Raise>

@@ -60,9 +60,9 @@ fn cell_seen(frames: &Frames, frame: usize, index: usize, operands: &Operands) -
     }
 }
 
-// What a cell of a frame holds, or 0 where there is none.
+/// What a cell of a frame holds, or 0 where there is none.
 #[inline(always)]
-fn cell_in(frames: &Frames, frame: usize, index: usize) -> Int32
+pub fn cell_in(frames: &Frames, frame: usize, index: usize) -> Int32
     ensures { result ≡ slice_index_or (slice_index_or frames.now frame []) index (pos 0) }
 {
     if frame < frames.len() {

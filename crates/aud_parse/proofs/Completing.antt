@@ -1,13 +1,15 @@
 -- What reading completes, and the exit of what completes a tree or reads several.
-use Rattle.std.proofs.Common.{◌≡◌, ℕ, List, ◌∷◌, ◌++◌, ◌∙◌}
+use Rattle.std.proofs.Common.{◌≡◌, ℕ, List, ◌∷◌, ◌++◌, ◌∙◌, ap, sym, arith}
 use Rattle.std.specs.Prelude.{Result, Ok, Err, IsErrAnd}
 use Rattle.std.proofs.lemmas.Result.{err_from_is_err_and}
 use Rattle.aud_lex.specs.Element.{Element}
-use Rattle.aud_grammar.specs.Grammar.{Symbol}
+use Rattle.aud_lex.specs.declared.token.Kind.{Kind}
+use Rattle.aud_grammar.specs.Grammar.{Symbol, T}
 use Rattle.aud_grammar.specs.Parsed.{Verdict}
 use Rattle.aud_grammar.specs.Actions.{Item}
 use Rattle.aud_grammar.specs.Ties.Outcome.{Out}
 use Rattle.aud_cursor.specs.Ties.Reads.{FailsAt, Fewer, FailsIn, Comes, Reading, Completing, Completes, ReadsAll, NoMore}
+use Rattle.aud_cursor.specs.Ties.Behind.{Ends}
 use Rattle.aud_cursor.specs.declared.cursor.Rest.{Rest}
 use Rattle.aud_cursor.specs.declared.cursor.Fault.{Fault}
 use Rattle.aud_cursor.specs.declared.cursor.Fault.TheVariants as fault
@@ -47,6 +49,12 @@ pub exit_among : {S : List Symbol} {s : Symbol} {r r' : ℕ} {start : Rest} {ts'
 exit_among {S = S} x e res is h before =
     let p = err_from_is_err_and res is in
     rw (p.1, p.2) (record { reads = fails_in S e h before; shorter = tt })
+
+-- several trees of which the last symbol is a word
+pub ends_among : {S : List Symbol} {c : Kind} {r : ℕ} (start mid : Rest) {f : List Item → List Item} {X : Type 0} (x : X → List Item) {tree : X} (res : Result (X × Rest) Fault) → Ends c tree mid res → NoMore mid start →
+    ((k : List Symbol) (ds : List Item) (v : Verdict) → Out (T c ∷ k) r mid.tokens.now ds v → Out (S ++ k) r start.tokens.now (f ds) v) → ((ds : List Item) → f ds ≡ x tree ++ ds) → ReadsAll x S r start res
+ends_among {r = r} start mid x (Ok p) e m before is = record { reads = λ k ds v o. to (before k ds v (e.reads.1 r k ds v o)) (is ds ∙ ap (λ t. x t ++ ds) (sym e.reads.0)); shorter = omega (arith, e.shorter, m) }
+ends_among {S} {r = r} start mid x (Err fault) e m before is = record { reads = fails_in S {K = λ k. k} fault (e.reads r) before; shorter = tt }
 
 -- several symbols that are read as the first of others, and the exit by a `?` of what has read them
 fails_more : (S s : List Symbol) (K : List Symbol → List Symbol) {r r' : ℕ} {ts ts' : List Element} {f : List Item → List Item} (e : Fault) →

@@ -4,3 +4,4 @@ pub mod Objects
 pub mod Heading
 pub mod Selects
 pub mod Alternating
+pub mod Listed

@@ -1,6 +1,6 @@
 -- The items of declarations and statements that are built from their phrases.
-use Rattle.std.proofs.Common.{◌≡◌, ℕ, Bool, true, false, List, [], ◌∷◌, map, refl, sym, ap, ◌∙◌}
-use Rattle.std.specs.Prelude.{Option, Some, None, Vec, Result, Ok, Err}
+use Rattle.std.proofs.Common.{◌≡◌, Bool, true, false, List, [], ◌∷◌, map, refl, sym, ap, ◌∙◌}
+use Rattle.std.specs.Prelude.{Option, Some, None, Vec}
 use Rattle.std.specs.Global.{Global}
 use Rattle.std.specs.Prelude.{Box}
 use Rattle.aud_syntax.specs.declared.tree.Ident.{Ident}
@@ -34,15 +34,11 @@ use Rattle.aud_syntax.specs.declared.tree.Context.{Context}
 use Rattle.aud_syntax.specs.Plain as m
 use Rattle.aud_syntax.specs.Ties.View.{plain_name, plain_names, plain_simple, plain_expression, plain_maybe, plain_formal, plain_entry, plain_definition, plain_declaration, plain_declarations, plain_others, plain_statements, plain_statement, plain_context, plain_body, plain_done, plain_accept, plain_expressions, arm_list, plain_iteration, plain_choices, handler_list}
 use Rattle.aud_grammar.specs.Grammar as g
-use Rattle.aud_grammar.specs.Grammar.{Symbol}
 use Rattle.aud_grammar.specs.Actions.{Item, made, place, an_ident, some_names, some_statements, a_body, a_unit, the_declarations, more_statements, opt_ident, opt_expression, a_statement, the_args, the_parts, a_variable, the_contexts, an_arm, the_arms, otherwise, the_iteration, loop_place, is_there, number_of, a_bound, an_iteration, a_declare, begin_of, the_handlers, the_formals, a_definition, a_task, opt_definition, a_declaration, an_entry, the_entries, an_accept, a_doing, the_body, the_names, top, pop}
 use Rattle.aud_cursor.specs.Ties.Items.{list_item, opt_item, boxed_item, mode_item, context_item, choices_item}
 use Rattle.aud_parse_expr.specs.Ties.Items.{simple_item, expression_item, args_item, part_item, name_item}
 use Rattle.aud_parse.specs.Ties.Items.{names_item, task_name_item, formal_item, entry_item, definition_item, doing_item, done_item, boxed_accept_item, task_item, declaration_item, boxed_declaration_item, statement_item, statements_item, body_item, boxed_body_item, unit_item, rest_item, variable_item, boxed_statement_item, boxed_statements_item, arm_item, boxed_arm_item, scheme_item, bound_item, declare_item, handler_item, boxed_handler_item}
 use Rattle.aud_cursor.specs.Ties.Parts.{mark_item}
-use Rattle.aud_cursor.specs.Ties.Reads.{Completing, Completes}
-use Rattle.aud_cursor.specs.declared.cursor.Rest.{Rest}
-use Rattle.aud_cursor.specs.declared.cursor.Fault.{Fault}
 use Rattle.aud_parse.specs.Ties.Parts.{assigned_or_called, else_statements, iteration_of, begins_at, declared_in, is_declared, declares_at, behind_label}
 use Rattle.aud_cursor.proofs.Rolls.{idents_items}
 use Rattle.aud_parse_expr.proofs.Rolls.{the_args_are, parts_are}
@@ -249,15 +245,8 @@ definition_items v i ds =
     ∙ ap (λ (z : Option Ident). a_definition (record { entries = map plain_entry v.items; end_name = z }) ∷ ds) (opt_ident_is i)
 
 -- statements with handlers, as what is done in an accept statement
-done_as : (st : List Item) (b : Box Body Global) (ds : List Item) → made g.Body st ≡ boxed_body_item b ∷ ds → made g.Do st ≡ done_item b ∷ ds
+pub done_as : (st : List Item) (b : Box Body Global) (ds : List Item) → made g.Body st ≡ boxed_body_item b ∷ ds → made g.Do st ≡ done_item b ∷ ds
 done_as st b ds h = ap done_of h
-
-pub done_from : {s : List Symbol} {r : ℕ} (begin : Item) (start : Rest) (res : Result (Box Body Global × Rest) Fault) → Completes (λ es. made g.Body (begin ∷ es)) boxed_body_item s r start res → Completes (λ es. made g.Do (begin ∷ es)) done_item s r start res
-done_from {s} {r} begin start res h = record { reads = by res h.reads; shorter = h.shorter }
-  where
-    by : (res : Result (Box Body Global × Rest) Fault) → Completing (λ es. made g.Body (begin ∷ es)) boxed_body_item s r start res → Completing (λ es. made g.Do (begin ∷ es)) done_item s r start res
-    by (Ok p) h = λ k ds v o. let w = h k ds v o in (w.0, w.1, done_as (begin ∷ w.0) p.0 ds w.2)
-    by (Err e) h = h
 
 pub accept_items : (b : Box AcceptStatement Global) (begin : Item) (p : Ident × Vec Formal Global) (x : Option (Box Body Global)) (ds : List Item) →
     plain_accept b.value ≡ m.accept (place begin) p.0 (map plain_formal p.1.items) (plain_done x) →

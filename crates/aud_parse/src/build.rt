@@ -30,6 +30,14 @@ pub type Declare = (Pos, Vec<Declaration>);
 /// A name, and the formal parameters behind it.
 pub type Specification = (Ident, Vec<Formal>);
 
+/// A tree in a box. It is of any type, so what drops it where memory is refused is one call.
+#[inline(never)]
+pub fn boxed<T: Drop>(alloc: Global, tree: T) -> Result<Box<T>, AllocError>
+    ensures { IfOk result (λ b. b.value ≡ tree) }
+{
+    Ok(Box::new(alloc, tree)?)
+}
+
 /// A list with one tree more.
 #[inline(never)]
 pub fn add<T: Drop>(all: Vec<T>, next: Box<T>) -> Result<Vec<T>, AllocError>
@@ -52,7 +60,7 @@ pub fn arm_of(alloc: Global, at: Pos, parts: Branch) -> Result<Box<Arm>, AllocEr
         condition: Box::into_inner(condition),
         statements: Box::into_inner(statements),
     };
-    Ok(Box::new(alloc, arm)?)
+    boxed(alloc, arm)
 }
 
 /// A statement, and those behind it.
@@ -65,7 +73,7 @@ pub fn in_order(
     ensures { IfOk result (λ b. b.value ≡ record { first = first.value; others = others }) }
 {
     let first = Box::into_inner(first);
-    Ok(Box::new(alloc, Statements { first, others })?)
+    boxed(alloc, Statements { first, others })
 }
 
 /// An assignment to the name, or a call of it where there is no value (RM 5.2, 6.4).
@@ -79,9 +87,9 @@ pub fn assign_or_call(
         assigned_or_called (plain_name name) value) }
 {
     let Some(value) = value else {
-        return Ok(Box::new(alloc, Statement::Call(name))?);
+        return Ok(boxed(alloc, Statement::Call(name))?);
     };
-    Ok(Box::new(alloc, Statement::Assign(name, value))?)
+    Ok(boxed(alloc, Statement::Assign(name, value))?)
 }
 
 /// An abort statement (RM 9.8).
@@ -96,9 +104,8 @@ pub fn made_abort(
         m.abort at (plain_name first.value) (plain_names others.items)) }
 {
     let first = Box::into_inner(first);
-    let statement = Box::new(alloc, AbortStatement { at, first, others })?;
-    let boxed = Box::new(alloc, Statement::Abort(statement))?;
-    Ok(boxed)
+    let statement = boxed(alloc, AbortStatement { at, first, others })?;
+    boxed(alloc, Statement::Abort(statement))
 }
 
 /// The statements of an else part, of which there are none where it is missing.
@@ -132,7 +139,7 @@ pub fn made_if(
     let otherwise = else_part(alloc, otherwise)?;
     let arm = arm_of(alloc, at, first)?;
     let first = Box::into_inner(arm);
-    let statement = Box::new(
+    let statement = boxed(
         alloc,
         IfStatement {
             first,
@@ -140,8 +147,7 @@ pub fn made_if(
             otherwise,
         },
     )?;
-    let boxed = Box::new(alloc, Statement::If(statement))?;
-    Ok(boxed)
+    boxed(alloc, Statement::If(statement))
 }
 
 // Where a loop begins: at its iteration scheme, or at `loop`.
@@ -182,7 +188,7 @@ pub fn made_loop(
     let iteration = iteration_of(scheme);
     let statements = Box::into_inner(inner);
     let (name, semicolon) = end;
-    let statement = Box::new(
+    let statement = boxed(
         alloc,
         LoopStatement {
             label,
@@ -193,8 +199,7 @@ pub fn made_loop(
             semicolon,
         },
     )?;
-    let boxed = Box::new(alloc, Statement::Loop(statement))?;
-    Ok(boxed)
+    boxed(alloc, Statement::Loop(statement))
 }
 
 /// A handler of its choices and its statements (RM 11.2(3)).
@@ -211,7 +216,7 @@ pub fn handler_of(
         choices: Box::into_inner(choices),
         statements: Box::into_inner(inner),
     };
-    Ok(Box::new(alloc, handler)?)
+    boxed(alloc, handler)
 }
 
 /// Statements with handlers, between `begin` and `end` (RM 11.2).
@@ -230,7 +235,7 @@ pub fn made_body(
     let (inner, handlers) = parts;
     let (name, semicolon) = last;
     let statements = Box::into_inner(inner);
-    let body = Box::new(
+    boxed(
         alloc,
         Body {
             begin,
@@ -240,8 +245,7 @@ pub fn made_body(
             name,
             semicolon,
         },
-    )?;
-    Ok(body)
+    )
 }
 
 // Where a block begins: at `declare`, or at `begin`.
@@ -290,7 +294,7 @@ pub fn made_block(
     let at = declares_at(&declare, body.begin);
     let is_declared = is_declared(&declare);
     let declarations = declared_in(alloc, declare);
-    let statement = Box::new(
+    let statement = boxed(
         alloc,
         BlockStatement {
             label,
@@ -300,8 +304,7 @@ pub fn made_block(
             body,
         },
     )?;
-    let boxed = Box::new(alloc, Statement::Block(statement))?;
-    Ok(boxed)
+    boxed(alloc, Statement::Block(statement))
 }
 
 /// A procedure and its body (RM 6.3).
@@ -319,7 +322,7 @@ pub fn made_procedure(
 {
     let (name, formals) = specification;
     let body = Box::into_inner(inner);
-    let procedure = Box::new(
+    let procedure = boxed(
         alloc,
         ProcedureDeclaration {
             at,
@@ -329,8 +332,7 @@ pub fn made_procedure(
             body,
         },
     )?;
-    let boxed = Box::new(alloc, Declaration::Procedure(procedure))?;
-    Ok(boxed)
+    boxed(alloc, Declaration::Procedure(procedure))
 }
 
 /// An accept statement (RM 9.5.2(3)).
@@ -345,7 +347,7 @@ pub fn made_accept(
         m.accept at head.0 (map plain_formal head.1.items) (plain_done doing)) }
 {
     let (name, formals) = head;
-    let statement = Box::new(
+    boxed(
         alloc,
         AcceptStatement {
             at,
@@ -353,8 +355,7 @@ pub fn made_accept(
             formals,
             doing,
         },
-    )?;
-    Ok(statement)
+    )
 }
 
 /// The body of a task (RM 9.1(6)).
@@ -370,7 +371,7 @@ pub fn made_task_body(
         m.task_body at name (plain_declarations declarations.items) (plain_body inner.value)) }
 {
     let body = Box::into_inner(inner);
-    let task = Box::new(
+    let task = boxed(
         alloc,
         TaskBody {
             at,
@@ -379,6 +380,5 @@ pub fn made_task_body(
             body,
         },
     )?;
-    let boxed = Box::new(alloc, Declaration::TaskBody(task))?;
-    Ok(boxed)
+    boxed(alloc, Declaration::TaskBody(task))
 }

@@ -6,6 +6,7 @@ ghost use Rattle.std.specs.Prelude.{◌≡◌, IfOk, map};
 ghost use Rattle.aud_syntax.specs.Plain as m;
 ghost use Rattle.aud_syntax.specs.Ties.View.{plain_body, plain_declaration, plain_declarations, plain_formal, plain_operation_body, made_operation_body, operation_body_list};
 
+use crate::build::boxed;
 use crate::operation_head::OperationHead;
 use aud_syntax::tree::{Body, Declaration, Ident, OperationBody, ProtectedBody};
 use aud_text::place::Pos;
@@ -31,7 +32,7 @@ pub fn made_operation_body(
         formals,
     } = Box::into_inner(head);
     let body = Box::into_inner(inner);
-    let operation = Box::new(
+    boxed(
         alloc,
         OperationBody {
             kind,
@@ -41,8 +42,7 @@ pub fn made_operation_body(
             declarations,
             body,
         },
-    )?;
-    Ok(operation)
+    )
 }
 
 /// The body of a protected object (RM 9.4(7)).
@@ -57,7 +57,7 @@ pub fn made_protected_body(
     ensures { IfOk result (λ b. plain_declaration b.value ≡
         m.protected_body at name (operation_body_list bodies.items) end_name) }
 {
-    let object = Box::new(
+    let object = boxed(
         alloc,
         ProtectedBody {
             at,
@@ -66,6 +66,5 @@ pub fn made_protected_body(
             end_name,
         },
     )?;
-    let boxed = Box::new(alloc, Declaration::ProtectedBody(object))?;
-    Ok(boxed)
+    boxed(alloc, Declaration::ProtectedBody(object))
 }

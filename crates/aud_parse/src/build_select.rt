@@ -9,7 +9,7 @@ ghost use Rattle.aud_syntax.specs.Plain as m;
 ghost use Rattle.aud_syntax.specs.Ties.View.{plain_name, plain_statement, plain_statements, plain_others, plain_maybe, plain_delay, plain_accept, plain_alternative, guarded_list, plain_other};
 ghost use Rattle.aud_parse.specs.Ties.Parts.{else_statements, unboxed};
 
-use crate::build::else_part;
+use crate::build::{boxed, else_part};
 use aud_syntax::tree::{
     AcceptStatement, Alternative, Delay, Expression, Guarded, Name, Otherwise, Real,
     SelectStatement, SelectedCall, Statement, Statements,
@@ -22,7 +22,7 @@ use std::alloc::{AllocError, Global};
 pub fn made_seconds(alloc: Global, at: Pos, seconds: Real) -> Result<Box<Delay>, AllocError>
     ensures { IfOk result (λ b. b.value ≡ delays.Seconds at seconds) }
 {
-    Ok(Box::new(alloc, Delay::Seconds(at, seconds))?)
+    boxed(alloc, Delay::Seconds(at, seconds))
 }
 
 /// A delay of a Duration (RM 9.6).
@@ -34,7 +34,7 @@ pub fn made_duration(
 ) -> Result<Box<Delay>, AllocError>
     ensures { IfOk result (λ b. b.value ≡ delays.Duration at value.value) }
 {
-    Ok(Box::new(alloc, Delay::Duration(at, Box::into_inner(value)))?)
+    boxed(alloc, Delay::Duration(at, Box::into_inner(value)))
 }
 
 /// An accept statement, as a statement (RM 9.5.2(3)).
@@ -45,8 +45,7 @@ pub fn accepting_of(
 ) -> Result<Box<Statement>, AllocError>
     ensures { IfOk result (λ b. plain_statement b.value ≡ m.accepting (plain_accept accept.value)) }
 {
-    let boxed = Box::new(alloc, Statement::Accept(accept))?;
-    Ok(boxed)
+    boxed(alloc, Statement::Accept(accept))
 }
 
 /// A delay, as a statement (RM 9.6).
@@ -54,8 +53,7 @@ pub fn accepting_of(
 pub fn delaying_of(alloc: Global, delay: Box<Delay>) -> Result<Box<Statement>, AllocError>
     ensures { IfOk result (λ b. plain_statement b.value ≡ m.delaying (plain_delay delay.value)) }
 {
-    let boxed = Box::new(alloc, Statement::Delay(delay))?;
-    Ok(boxed)
+    boxed(alloc, Statement::Delay(delay))
 }
 
 /// An accept alternative (RM 9.7.1(5)).
@@ -70,8 +68,7 @@ pub fn accept_alternative_of(
 {
     let behind = else_part(alloc, behind)?;
     let accept = Box::into_inner(accept);
-    let boxed = Box::new(alloc, Alternative::Accept(accept, behind))?;
-    Ok(boxed)
+    boxed(alloc, Alternative::Accept(accept, behind))
 }
 
 /// A delay alternative (RM 9.7.1(6)).
@@ -86,8 +83,7 @@ pub fn delay_alternative_of(
 {
     let behind = else_part(alloc, behind)?;
     let delay = Box::into_inner(delay);
-    let boxed = Box::new(alloc, Alternative::Delay(delay, behind))?;
-    Ok(boxed)
+    boxed(alloc, Alternative::Delay(delay, behind))
 }
 
 /// A terminate alternative (RM 9.7.1(7)).
@@ -95,7 +91,7 @@ pub fn delay_alternative_of(
 pub fn terminate_alternative_of(alloc: Global) -> Result<Box<Alternative>, AllocError>
     ensures { IfOk result (λ b. b.value ≡ alternatives.Terminate) }
 {
-    Ok(Box::new(alloc, Alternative::Terminate)?)
+    boxed(alloc, Alternative::Terminate)
 }
 
 // The condition of a guard, out of its box.
@@ -122,7 +118,7 @@ pub fn guarded_of(
         guard: unboxed(guard),
         alternative: Box::into_inner(alternative),
     };
-    Ok(Box::new(alloc, guarded)?)
+    boxed(alloc, guarded)
 }
 
 /// A selective accept (RM 9.7.1).
@@ -141,7 +137,7 @@ pub fn made_select(
 {
     let otherwise = else_part(alloc, otherwise)?;
     let first = Box::into_inner(first);
-    let statement = Box::new(
+    let statement = boxed(
         alloc,
         SelectStatement {
             at,
@@ -150,8 +146,7 @@ pub fn made_select(
             otherwise,
         },
     )?;
-    let boxed = Box::new(alloc, Statement::Select(statement))?;
-    Ok(boxed)
+    boxed(alloc, Statement::Select(statement))
 }
 
 /// What is done in place of an entry call when its time is over (RM 9.7.2).
@@ -166,8 +161,7 @@ pub fn or_delay_of(
 {
     let behind = else_part(alloc, behind)?;
     let delay = Box::into_inner(delay);
-    let boxed = Box::new(alloc, Otherwise::Delay(delay, behind))?;
-    Ok(boxed)
+    boxed(alloc, Otherwise::Delay(delay, behind))
 }
 
 /// What is done in place of an entry call that does not begin at once (RM 9.7.3).
@@ -176,8 +170,7 @@ pub fn or_else_of(alloc: Global, inner: Box<Statements>) -> Result<Box<Otherwise
     ensures { IfOk result (λ b. plain_other b.value ≡ m.or_else (plain_statements inner.value)) }
 {
     let statements = Box::into_inner(inner);
-    let boxed = Box::new(alloc, Otherwise::Else(statements))?;
-    Ok(boxed)
+    boxed(alloc, Otherwise::Else(statements))
 }
 
 /// A timed or a conditional entry call (RM 9.7.2, 9.7.3).
@@ -196,7 +189,7 @@ pub fn made_select_call(
     let behind = else_part(alloc, behind)?;
     let call = Box::into_inner(call);
     let otherwise = Box::into_inner(otherwise);
-    let statement = Box::new(
+    let statement = boxed(
         alloc,
         SelectedCall {
             at,
@@ -205,6 +198,5 @@ pub fn made_select_call(
             otherwise,
         },
     )?;
-    let boxed = Box::new(alloc, Statement::SelectCall(statement))?;
-    Ok(boxed)
+    boxed(alloc, Statement::SelectCall(statement))
 }

@@ -6,6 +6,7 @@ ghost use Rattle.aud_grammar.specs.Actions.{an_exception};
 ghost use Rattle.aud_parse.specs.Ties.Items.{names_item, variable_item, constant_item, bound_item, index_item, array_item, declaration_item, boxed_declaration_item};
 ghost use Rattle.aud_cursor.specs.Ties.Reads.{Reads, ReadsFlat};
 
+use crate::build::boxed;
 use aud_cursor::behind::{both, ended};
 use aud_cursor::cursor::{Read, Rest, deeper, is, token, word};
 use aud_cursor::leaf::{ident, mark, more_idents};
@@ -54,7 +55,7 @@ fn bound(alloc: Global, start: Rest) -> Read<Box<Bound>>
     let (t, rest) = token(rest, Kind::Integer)?;
     let value = number_value(t.text());
     let number = Number { value, at: t.at() };
-    let boxed = Box::new(alloc, Bound { negative, number })?;
+    let boxed = boxed(alloc, Bound { negative, number })?;
     Ok((boxed, rest))
 }
 
@@ -127,6 +128,6 @@ pub fn named_declaration(alloc: Global, start: Rest, room: u32) -> Read<Box<Decl
     ensures { Reads boxed_declaration_item (N g.NamedDeclaration) room start.entry result }
 {
     let (declaration, rest) = named(alloc, start, room)?;
-    let boxed = Box::new(alloc, declaration)?;
+    let boxed = boxed(alloc, declaration)?;
     Ok((boxed, rest))
 }

@@ -88,6 +88,5 @@ pub fn specification(alloc: Global, start: Rest, room: u32) -> Read<Specificatio
         (N g.Identifier ∷ Opt g.Formals ∷ T kind.Is ∷ []) room start.entry result }
 {
     let (parts, rest) = head(alloc, start, room)?;
-    let (parts, rest) = ended(parts, rest, Kind::Is)?;
-    Ok((parts, rest))
+    ended(parts, rest, Kind::Is)
 }

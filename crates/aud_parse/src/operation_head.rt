@@ -4,7 +4,7 @@ ghost use Rattle.std.specs.Prelude.{◌≡◌, IfOk};
 ghost use Rattle.aud_grammar.specs.Grammar as g;
 ghost use Rattle.aud_parse.specs.Ties.Heads.{ReadsHead};
 
-use crate::build::Specification;
+use crate::build::{Specification, boxed};
 use crate::formals::{head, specification};
 use aud_cursor::behind::{both, ended};
 use aud_cursor::cursor::{Read, Rest, is, token};
@@ -43,7 +43,7 @@ fn head_of(
         name,
         formals,
     };
-    Ok(Box::new(alloc, head)?)
+    boxed(alloc, head)
 }
 
 /// The head of an entry's body, with its barrier (RM 9.5.2(5, 7)).

@@ -9,6 +9,7 @@ ghost use Rattle.aud_cursor.specs.Ties.Items.{opt_item, vec_item};
 ghost use Rattle.aud_parse.specs.Ties.Items.{private_item, hidden_item, protected_item, operation_body_item, boxed_declaration_item};
 ghost use Rattle.aud_cursor.specs.Ties.Reads.{Reads, MayRead, Completes};
 
+use crate::build::boxed;
 use crate::build_protected::made_protected_body;
 use crate::declaration::identifiers;
 use crate::operation::{OPERATIONS, operation, operations};
@@ -116,7 +117,7 @@ pub fn protected_declaration<'a>(
         private_items,
         end_name,
     };
-    let boxed = Box::new(alloc, Declaration::Protected(object))?;
+    let boxed = boxed(alloc, Declaration::Protected(object))?;
     Ok((boxed, rest))
 }
 

@@ -11,6 +11,7 @@ ghost use Rattle.aud_cursor.specs.Ties.Items.{opt_item};
 ghost use Rattle.aud_parse.specs.Ties.Items.{scheme_item, range_items};
 ghost use Rattle.aud_cursor.specs.Ties.Reads.{Reads, MayRead, ReadsAll};
 
+use crate::build::boxed;
 use aud_cursor::cursor::{Read, Rest, is, token, word};
 use aud_cursor::leaf::{ident, mark};
 use aud_lex::token::Kind;
@@ -29,7 +30,7 @@ fn while_scheme(alloc: Global, start: Rest, room: u32) -> Read<Scheme>
     let (t, rest) = token(start, Kind::While)?;
     let (condition, rest) = expression(alloc, rest, room)?;
     let iteration = Iteration::While(Box::into_inner(condition));
-    let boxed = Box::new(alloc, iteration)?;
+    let boxed = boxed(alloc, iteration)?;
     Ok(((t.at(), boxed), rest))
 }
 
@@ -59,7 +60,7 @@ fn for_scheme(alloc: Global, start: Rest, room: u32) -> Read<Scheme>
         low: Box::into_inner(low),
         high: Box::into_inner(high),
     };
-    let boxed = Box::new(alloc, Iteration::For(parameter))?;
+    let boxed = boxed(alloc, Iteration::For(parameter))?;
     Ok(((t.at(), boxed), rest))
 }
 

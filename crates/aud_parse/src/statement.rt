@@ -13,15 +13,15 @@ ghost use Rattle.aud_grammar.specs.First.{next_in};
 ghost use Rattle.aud_grammar.specs.Actions.{an_ident, token, made};
 ghost use Rattle.aud_cursor.specs.Ties.Items.{vec_item, opt_item, boxed_item};
 ghost use Rattle.aud_parse_expr.specs.Ties.Items.{expression_item};
-ghost use Rattle.aud_parse.specs.Ties.Items.{assigned_item, rest_item, scheme_item, statement_item, boxed_statement_item, boxed_statements_item, arm_item, boxed_arm_item, handler_item, boxed_handler_item, boxed_body_item, done_item, doing_item, boxed_accept_item, boxed_alternative_item, else_item, last_item, further_item, boxed_otherwise_item, guarded_items, declaration_item, boxed_declaration_item, declare_item, operation_body_item, boxed_operation_body_item};
+ghost use Rattle.aud_parse.specs.Ties.Items.{assigned_item, rest_item, scheme_item, statement_item, boxed_statement_item, boxed_statements_item, arm_item, handler_item, boxed_handler_item, boxed_body_item, doing_item, boxed_accept_item, boxed_alternative_item, else_item, last_item, further_item, boxed_otherwise_item, guarded_items, declaration_item, boxed_declaration_item, declare_item, operation_body_item, boxed_operation_body_item};
 ghost use Rattle.aud_parse.specs.Ties.Alternatives.{alternative_of, remaining, followed, MayComplete};
 ghost use Rattle.aud_parse.specs.Ties.Parts.{behind_label};
-ghost use Rattle.aud_cursor.specs.Ties.Reads.{Reads, MayRead, ReadsFlat, MayReadFlat, Completes, ReadsAll};
+ghost use Rattle.aud_cursor.specs.Ties.Reads.{Reads, MayRead, ReadsFlat, Completes, ReadsAll};
 
 use crate::abort::abort;
 use crate::build::{
-    Branch, Declare, add, arm_of, assign_or_call, handler_of, in_order, made_accept, made_block,
-    made_body, made_if, made_loop, made_procedure, made_task_body,
+    Branch, Declare, add, arm_of, assign_or_call, boxed, handler_of, in_order, made_accept,
+    made_block, made_body, made_if, made_loop, made_procedure, made_task_body,
 };
 use crate::build_protected::made_operation_body;
 use crate::build_select::{
@@ -84,7 +84,7 @@ fn null(alloc: Global, start: Rest) -> Read<Box<Statement>>
     ensures { ReadsFlat boxed_statement_item (N g.NullStatement) start.entry result }
 {
     let (t, rest) = token(start, Kind::Null)?;
-    let statement = Box::new(alloc, Statement::Null(t.at()))?;
+    let statement = boxed(alloc, Statement::Null(t.at()))?;
     ended(statement, rest, Kind::Semicolon)
 }
 
@@ -132,7 +132,7 @@ fn exit(alloc: Global, start: Rest, room: u32) -> Read<Box<Statement>>
     let (t, rest) = token(start, Kind::Exit)?;
     let (label, rest) = opt_ident(alloc, rest)?;
     let (condition, rest) = opt_value(alloc, rest, room, Kind::When)?;
-    let statement = Box::new(alloc, Statement::Exit(t.at(), label, condition))?;
+    let statement = boxed(alloc, Statement::Exit(t.at(), label, condition))?;
     ended(statement, rest, Kind::Semicolon)
 }
 
@@ -143,7 +143,7 @@ fn return_statement(alloc: Global, start: Rest, room: u32) -> Read<Box<Statement
 {
     let (t, rest) = token(start, Kind::Return)?;
     let (value, rest) = opt_expression(alloc, rest, room)?;
-    let statement = Box::new(alloc, Statement::Return(t.at(), value))?;
+    let statement = boxed(alloc, Statement::Return(t.at(), value))?;
     ended(statement, rest, Kind::Semicolon)
 }
 
@@ -154,7 +154,7 @@ fn raise(alloc: Global, start: Rest) -> Read<Box<Statement>>
 {
     let (t, rest) = token(start, Kind::Raise)?;
     let (exception, rest) = opt_ident(alloc, rest)?;
-    let statement = Box::new(alloc, Statement::Raise(t.at(), exception))?;
+    let statement = boxed(alloc, Statement::Raise(t.at(), exception))?;
     ended(statement, rest, Kind::Semicolon)
 }
 
@@ -172,37 +172,32 @@ fn procedure(alloc: Global, start: Rest, room: u32) -> Read<Box<Declaration>>
     Ok((declaration, rest))
 }
 
-/// The body of a task, behind its first word (RM 9.1(6)).
-#[cycle(statement)]
+/// The name behind `body`, and the `is` behind it.
 #[inline(never)]
-fn task_body<'a>(
-    alloc: Global,
-    begin: &Token,
-    start: Rest<'a>,
-    room: u32,
-) -> Read<'a, Box<Declaration>>
-    ensures { Completes (λ es. made g.Task (token begin.now ∷ es)) boxed_declaration_item
-        (N g.TaskBody ∷ []) room start.entry result }
+fn body_name(alloc: Global, start: Rest) -> Read<Ident>
+    ensures { (room : ℕ) → ReadsAll (λ name. an_ident name ∷ [])
+        (T kind.Body ∷ N g.Identifier ∷ T kind.Is ∷ []) room start.entry result }
 {
     let rest = word(start, Kind::Body)?;
     let (name, rest) = ident(alloc, rest)?;
-    let (name, rest) = ended(name, rest, Kind::Is)?;
-    let (declarations, rest) = opt_declarations(alloc, rest, room)?;
-    let (body, rest) = body(alloc, rest, room)?;
-    let declaration = made_task_body(alloc, begin.at(), name, declarations, body)?;
-    Ok((declaration, rest))
+    ended(name, rest, Kind::Is)
 }
 
 /// A task or a task type, or the body of one (RM 9.1).
 #[cycle(statement)]
+#[inline(never)]
 fn task(alloc: Global, start: Rest, room: u32) -> Read<Box<Declaration>>
     ensures { Reads boxed_declaration_item (N g.Task) room start.entry result }
 {
     let (begin, rest) = token(start, Kind::Task)?;
-    if is(rest, Kind::Body) {
-        return task_body(alloc, begin, rest, room);
+    if !is(rest, Kind::Body) {
+        return task_declaration(alloc, begin, rest, room);
     }
-    task_declaration(alloc, begin, rest, room)
+    let (name, rest) = body_name(alloc, rest)?;
+    let (declarations, rest) = opt_declarations(alloc, rest, room)?;
+    let (body, rest) = body(alloc, rest, room)?;
+    let declaration = made_task_body(alloc, begin.at(), name, declarations, body)?;
+    Ok((declaration, rest))
 }
 
 /// The body of an operation (RM 9.4(8)).
@@ -233,35 +228,19 @@ fn operation_bodies(alloc: Global, start: Rest, room: u32) -> Read<Vec<Operation
     Ok((all, rest))
 }
 
-/// The body of a protected object, behind its first word (RM 9.4(7)).
-#[cycle(statement)]
-#[inline(never)]
-fn protected_body<'a>(
-    alloc: Global,
-    begin: &Token,
-    start: Rest<'a>,
-    room: u32,
-) -> Read<'a, Box<Declaration>>
-    ensures { Completes (λ es. made g.Protected (token begin.now ∷ es)) boxed_declaration_item
-        (N g.ProtectedBody ∷ []) room start.entry result }
-{
-    let rest = word(start, Kind::Body)?;
-    let (name, rest) = ident(alloc, rest)?;
-    let (name, rest) = ended(name, rest, Kind::Is)?;
-    let (bodies, rest) = operation_bodies(alloc, rest, room)?;
-    end_protected_body(alloc, (name, bodies), begin, rest)
-}
-
 /// A protected object, or the body of one (RM 9.4).
 #[cycle(statement)]
+#[inline(never)]
 fn protected(alloc: Global, start: Rest, room: u32) -> Read<Box<Declaration>>
     ensures { Reads boxed_declaration_item (N g.Protected) room start.entry result }
 {
     let (begin, rest) = token(start, Kind::Protected)?;
-    if is(rest, Kind::Body) {
-        return protected_body(alloc, begin, rest, room);
+    if !is(rest, Kind::Body) {
+        return protected_declaration(alloc, begin, rest, room);
     }
-    protected_declaration(alloc, begin, rest, room)
+    let (name, rest) = body_name(alloc, rest)?;
+    let (bodies, rest) = operation_bodies(alloc, rest, room)?;
+    end_protected_body(alloc, (name, bodies), begin, rest)
 }
 
 /// A declaration (RM 3.1).
@@ -281,42 +260,25 @@ fn declaration(alloc: Global, start: Rest, room: u32) -> Read<Box<Declaration>>
     protected(alloc, start, room)
 }
 
-/// Declarations, at least one.
+/// Declarations, if there are any, which lie one level deeper (RM 3.11).
 #[cycle(statement)]
-fn declaration_list(alloc: Global, start: Rest, room: u32) -> Read<Vec<Declaration>>
-    ensures { Reads (vec_item declaration_item) (N g.DeclarationList) room start.entry result }
+pub fn opt_declarations(alloc: Global, start: Rest, room: u32) -> Read<Vec<Declaration>>
+    ensures { MayRead (vec_item declaration_item) (Opt g.Declarations) room start.entry result }
 {
     let mut all = Vec::new(alloc);
+    if !is_one_of(start, &DECLARATIONS) {
+        return Ok((all, start));
+    }
+    let inside = deeper(start, room, true)?;
     let mut rest = start;
     'turns: loop {
-        let (next, after) = declaration(alloc, rest, room)?;
+        let (next, after) = declaration(alloc, rest, inside)?;
         all = add(all, next)?;
         if !is_one_of(after, &DECLARATIONS) {
             return Ok((all, after));
         }
         rest = after;
     }
-}
-
-/// Declarations, which lie one level deeper.
-#[cycle(statement)]
-fn declarations(alloc: Global, start: Rest, room: u32) -> Read<Vec<Declaration>>
-    ensures { Reads (vec_item declaration_item) (N g.Declarations) room start.entry result }
-{
-    let inside = deeper(start, room, is_one_of(start, &DECLARATIONS))?;
-    declaration_list(alloc, start, inside)
-}
-
-/// Declarations, if there are any (RM 3.11).
-#[cycle(statement)]
-pub fn opt_declarations(alloc: Global, start: Rest, room: u32) -> Read<Vec<Declaration>>
-    ensures { MayRead (vec_item declaration_item) (Opt g.Declarations) room start.entry result }
-{
-    if is_one_of(start, &DECLARATIONS) {
-        return declarations(alloc, start, room);
-    }
-    let none = Vec::new(alloc);
-    Ok((none, start))
 }
 
 /// The declarations of a block behind `declare`, if that comes next (RM 5.6).
@@ -386,28 +348,20 @@ fn block(alloc: Global, label: Option<Ident>, start: Rest, room: u32) -> Read<Bo
     Ok((statement, rest))
 }
 
-/// A loop or a block behind its name (RM 5.5, 5.6).
-#[cycle(statement)]
-fn labelled(alloc: Global, label: Option<Ident>, start: Rest, room: u32) -> Read<Box<Statement>>
-    ensures { Completes (λ es. behind_label label es) boxed_statement_item (N g.Labellable ∷ [])
-        room start.entry result }
-{
-    if is_one_of(start, &LOOPS) {
-        return loop_statement(alloc, label, start, room);
-    }
-    block(alloc, label, start, room)
-}
-
-/// A statement that begins with a name: its label, or what is assigned to or called.
+/// A statement that begins with a name: the label of a loop or a block (RM 5.5, 5.6), or what is
+/// assigned to or called.
 #[cycle(statement)]
 fn name_statement(alloc: Global, start: Rest, room: u32) -> Read<Box<Statement>>
     ensures { Reads boxed_statement_item (N g.NameStatement) room start.entry result }
 {
     let (ident, rest) = ident(alloc, start)?;
-    if let Some((_, behind)) = accept(rest, Kind::Colon) {
-        return labelled(alloc, Some(ident), behind, room);
+    let Some((_, behind)) = accept(rest, Kind::Colon) else {
+        return named(alloc, ident, rest, room);
+    };
+    if is_one_of(behind, &LOOPS) {
+        return loop_statement(alloc, Some(ident), behind, room);
     }
-    named(alloc, ident, rest, room)
+    block(alloc, Some(ident), behind, room)
 }
 
 /// A condition of an if statement (RM 5.3).
@@ -430,26 +384,16 @@ fn guarded(alloc: Global, start: Rest, room: u32) -> Read<Branch>
     Ok(((condition, inner), rest))
 }
 
-/// A further condition of an if statement, and its statements (RM 5.3).
-#[cycle(statement)]
-fn elsif(alloc: Global, start: Rest, room: u32) -> Read<Box<Arm>>
-    ensures { Reads boxed_arm_item (N g.Elsif) room start.entry result }
-{
-    let (t, rest) = token(start, Kind::Elsif)?;
-    let (parts, rest) = guarded(alloc, rest, room)?;
-    let arm = arm_of(alloc, t.at(), parts)?;
-    Ok((arm, rest))
-}
-
-/// The further conditions of an if statement.
+/// The further conditions of an if statement, and their statements (RM 5.3).
 #[cycle(statement)]
 fn elsifs(alloc: Global, start: Rest, room: u32) -> Read<Vec<Arm>>
     ensures { MayRead (vec_item arm_item) (Rep g.Elsif) room start.entry result }
 {
     let mut all = Vec::new(alloc);
     let mut rest = start;
-    'turns: while is(rest, Kind::Elsif) {
-        let (next, after) = elsif(alloc, rest, room)?;
+    'turns: while let Some((t, behind)) = accept(rest, Kind::Elsif) {
+        let (parts, after) = guarded(alloc, behind, room)?;
+        let next = arm_of(alloc, t.at(), parts)?;
         all = add(all, next)?;
         rest = after;
     }
@@ -504,23 +448,14 @@ fn if_statement(alloc: Global, start: Rest, room: u32) -> Read<Box<Statement>>
     end_if(alloc, (first, others, otherwise), begin, rest)
 }
 
-/// The same behind `do` in place of `begin` (RM 9.5.2(3)).
-#[cycle(statement)]
-#[inline(never)]
-fn do_body(alloc: Global, start: Rest, room: u32) -> Read<Box<Body>>
-    ensures { Reads done_item (N g.Do) room start.entry result }
-{
-    let (begin, rest) = token(start, Kind::Do)?;
-    in_body(alloc, begin, rest, room)
-}
-
-/// What is done in an accept statement, if anything is.
+/// What is done in an accept statement, if anything is: it stands behind `do` in place of `begin`
+/// (RM 9.5.2(3)).
 #[cycle(statement)]
 fn opt_do(alloc: Global, start: Rest, room: u32) -> Read<Option<Box<Body>>>
     ensures { Reads doing_item (N g.AcceptRest) room start.entry result }
 {
-    if is(start, Kind::Do) {
-        let (body, rest) = do_body(alloc, start, room)?;
+    if let Some((begin, behind)) = accept(start, Kind::Do) {
+        let (body, rest) = in_body(alloc, begin, behind, room)?;
         return Ok((Some(body), rest));
     }
     let rest = word(start, Kind::Semicolon)?;
@@ -696,18 +631,8 @@ fn or_delay(alloc: Global, start: Rest, room: u32) -> Read<Box<Otherwise>>
     Ok((otherwise, rest))
 }
 
-/// What is done in place of an entry call that does not begin at once (RM 9.7.3).
-#[cycle(statement)]
-#[inline(never)]
-fn or_else(alloc: Global, start: Rest, room: u32) -> Read<Box<Otherwise>>
-    ensures { Reads boxed_otherwise_item (N g.OrElsePart) room start.entry result }
-{
-    let (inner, rest) = else_part(alloc, start, room)?;
-    let otherwise = or_else_of(alloc, inner)?;
-    Ok((otherwise, rest))
-}
-
-/// What is done in place of an entry call.
+/// What is done in place of an entry call: when its time is over, or where it does not begin at once
+/// (RM 9.7.3).
 #[cycle(statement)]
 fn otherwise(alloc: Global, start: Rest, room: u32) -> Read<Box<Otherwise>>
     ensures { Reads boxed_otherwise_item (N g.Otherwise) room start.entry result }
@@ -715,7 +640,9 @@ fn otherwise(alloc: Global, start: Rest, room: u32) -> Read<Box<Otherwise>>
     if is(start, Kind::Or) {
         return or_delay(alloc, start, room);
     }
-    or_else(alloc, start, room)
+    let (inner, rest) = else_part(alloc, start, room)?;
+    let otherwise = or_else_of(alloc, inner)?;
+    Ok((otherwise, rest))
 }
 
 /// A timed or a conditional entry call, behind its first word (RM 9.7.2, 9.7.3).
@@ -824,24 +751,16 @@ fn more_statements(alloc: Global, start: Rest, room: u32) -> Read<Vec<Statement>
     Ok((all, rest))
 }
 
-/// Statements, at least one.
-#[cycle(statement)]
-fn statement_list(alloc: Global, start: Rest, room: u32) -> Read<Box<Statements>>
-    ensures { Reads boxed_statements_item (N g.StatementList) room start.entry result }
-{
-    let (first, rest) = statement(alloc, start, room)?;
-    let (others, rest) = more_statements(alloc, rest, room)?;
-    let statements = in_order(alloc, first, others)?;
-    Ok((statements, rest))
-}
-
-/// Statements, which lie one level deeper.
+/// Statements, at least one, which lie one level deeper.
 #[cycle(statement)]
 fn statements(alloc: Global, start: Rest, room: u32) -> Read<Box<Statements>>
     ensures { Reads boxed_statements_item (N g.Statements) room start.entry result }
 {
     let inside = deeper(start, room, is_one_of(start, &STATEMENTS))?;
-    statement_list(alloc, start, inside)
+    let (first, rest) = statement(alloc, start, inside)?;
+    let (others, rest) = more_statements(alloc, rest, inside)?;
+    let statements = in_order(alloc, first, others)?;
+    Ok((statements, rest))
 }
 
 /// A handler of exceptions (RM 11.2(3)).
@@ -857,13 +776,16 @@ fn handler(alloc: Global, start: Rest, room: u32) -> Read<Box<Handler>>
     Ok((handler, rest))
 }
 
-/// Handlers, at least one.
+/// The handlers behind `exception`, if there are any.
 #[cycle(statement)]
-fn handler_list(alloc: Global, start: Rest, room: u32) -> Read<Vec<Handler>>
-    ensures { Reads (vec_item handler_item) (N g.HandlerList) room start.entry result }
+fn opt_handlers(alloc: Global, start: Rest, room: u32) -> Read<Vec<Handler>>
+    ensures { MayRead (vec_item handler_item) (Opt g.Handlers) room start.entry result }
 {
     let mut all = Vec::new(alloc);
-    let mut rest = start;
+    let Some((_, behind)) = accept(start, Kind::Exception) else {
+        return Ok((all, start));
+    };
+    let mut rest = behind;
     'turns: loop {
         let (next, after) = handler(alloc, rest, room)?;
         all = add(all, next)?;
@@ -872,18 +794,6 @@ fn handler_list(alloc: Global, start: Rest, room: u32) -> Read<Vec<Handler>>
         }
         rest = after;
     }
-}
-
-/// The handlers behind `exception`, if there are any.
-#[cycle(statement)]
-fn opt_handlers(alloc: Global, start: Rest, room: u32) -> Read<Vec<Handler>>
-    ensures { MayRead (vec_item handler_item) (Opt g.Handlers) room start.entry result }
-{
-    if let Some((_, behind)) = accept(start, Kind::Exception) {
-        return handler_list(alloc, behind, room);
-    }
-    let none = Vec::new(alloc);
-    Ok((none, start))
 }
 
 /// What ends statements with handlers, and these.

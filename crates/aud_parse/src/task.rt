@@ -8,6 +8,7 @@ ghost use Rattle.aud_cursor.specs.Ties.Items.{opt_item};
 ghost use Rattle.aud_parse.specs.Ties.Items.{definition_item, task_item, boxed_declaration_item};
 ghost use Rattle.aud_cursor.specs.Ties.Reads.{Reads, MayRead, Completes};
 
+use crate::build::boxed;
 use crate::entry::entries;
 use aud_cursor::behind::{both, ended};
 use aud_cursor::cursor::{Read, Rest, is, word};
@@ -66,6 +67,6 @@ pub fn task_declaration<'a>(
         name,
         definition,
     };
-    let boxed = Box::new(alloc, Declaration::Task(task))?;
+    let boxed = boxed(alloc, Declaration::Task(task))?;
     Ok((boxed, rest))
 }

@@ -7,4 +7,5 @@ pub mod Leaving
 pub mod Numbers
 pub mod FastSteps
 pub mod FastRuns
+pub mod Beside
 pub mod Ahead

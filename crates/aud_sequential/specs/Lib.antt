@@ -5,3 +5,4 @@ pub mod Next
 pub mod Standing
 pub mod Fast
 pub mod Leading
+pub mod Beside

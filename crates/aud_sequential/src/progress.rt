@@ -330,7 +330,8 @@ impl Progress {
         requires budget { self.old.steps + n ≤ STEPS }
         ensures runs { RunsFast code.now n self.old self.new result }
     {
-        let run = fast_run(code, self.place, &mut self.store, n);
+        let alloc = *self.output.allocator();
+        let run = fast_run(alloc, code, self.place, &mut self.store, n);
         self.place = run.place;
         self.steps += run.steps;
         run

@@ -1,5 +1,5 @@
 -- All frames, of which the first one lies apart, and others are kept.
-use Rattle.std.proofs.Common.{◌≡◌, ◌≢◌, ℕ, zero, suc, ◌+◌, ◌<◌, ℤ, List, [], ◌∷◌, ◌++◌, length, get_or, Option, Some, None, IsNone, IfNone, IsPermutation, slice_get, if◌then◌else◌, sym, ap, ◌∙◌, refl, inl, inr, arith}
+use Rattle.std.proofs.Common.{◌≡◌, ◌≢◌, ℕ, zero, suc, ◌+◌, ◌<◌, ℤ, List, [], ◌∷◌, ◌++◌, length, get_or, Option, Some, None, IsNone, IfNone, OnSome, IsPermutation, slice_get, if◌then◌else◌, sym, ap, ◌∙◌, refl, inl, inr, arith}
 use Rattle.std.proofs.lemmas.Bool.{cases_lt, ne_eqb}
 use Rattle.std.proofs.lemmas.List.{get_or_past}
 use Rattle.std.proofs.lemmas.Option.{slice_get-get_or}
@@ -65,6 +65,14 @@ frame_got made n f frames view within =
 
 pub kept_got : (made n : ℕ) (first : List ℤ) (s : Shelf) (frames : List (List ℤ)) → laid made (frame_of first s) ≡ frames → n < length frames → n ≢ 0 → slice_get frames n ≡ Some (cells_on s n)
 kept_got made n first s frames view within some = frame_got made n (frame_of first s) frames view within ∙ ap Some (kept_frame first s n some)
+
+pub kept_read : (made n : ℕ) (first : List ℤ) (s : Shelf) (frames : List (List ℤ)) → laid made (frame_of first s) ≡ frames → n < length frames → n ≢ 0 → cells_on s n ≡ get_or frames n []
+kept_read made n first s frames view within some =
+    sym (sym (ap (λ fs. get_or fs n []) view) ∙ laid_at made n (frame_of first s) (below_made made n (frame_of first s) frames view within) ∙ kept_frame first s n some)
+
+pub on_some : {A P Q : Type 0} (o : Option A) → (P → Q) → OnSome o P → OnSome o Q
+on_some None so p = tt
+on_some (Some x) so p = so p
 
 none_told : {A : Type 0} {P : Type 0} (o : Option A) → IfNone o P → IsNone o → P
 none_told None told none = told

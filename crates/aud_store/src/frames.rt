@@ -1,13 +1,15 @@
 // The variables of all executions of bodies.
 
-ghost use Rattle.std.specs.Prelude.{◌≡◌, ℤ, pos, ◌<◌, List, [], ◌∷◌, ◌++◌, length, replicate, IsNone, OnOk, OnErr, slice_get, slice_index_or, slice_set};
+ghost use Rattle.std.specs.Prelude.{◌≡◌, ℤ, pos, ◌<◌, List, [], ◌∷◌, ◌++◌, length, replicate, IsNone, IsSome, IfSome, OnSome, OnOk, OnErr, slice_get, slice_index_or, slice_set};
 ghost use Rattle.aud_store.specs.Ties.Frames.{only_named, with_frame};
 
-use crate::cells::{lengthen, write};
+use crate::cells::{Cells, lengthen, write};
 use crate::shelf::Shelf;
 use aud_text::int32::Int32;
+use smallvec::SmallVec;
 use std::alloc::{AllocError, Global};
 use std::marker::Model;
+use std::mem;
 
 // So many cells may come before it is worth a look which frames are over.
 const DUE: usize = 8_192;
@@ -21,7 +23,7 @@ const FRAME: usize = 8;
 #[derive(Drop)]
 pub struct Frames {
     made: usize,
-    first: Vec<Int32>,
+    first: Cells,
     shelf: Shelf,
     fresh: usize,
 }
@@ -45,7 +47,7 @@ impl Frames {
     {
         Frames {
             made: 0,
-            first: Vec::new(alloc),
+            first: SmallVec::new(alloc),
             shelf: Shelf::new(alloc),
             fresh: 0,
         }
@@ -58,7 +60,8 @@ impl Frames {
     {
         let made = self.made.checked_add(1).ok_or(AllocError)?;
         if self.made == 0 {
-            self.first = Vec::from_slice(alloc, variables)?;
+            let first = SmallVec::from_slice(alloc, variables)?;
+            drop(mem::replace(&mut self.first, first));
         } else {
             self.shelf.push(alloc, self.made, variables)?;
         }
@@ -83,7 +86,7 @@ impl Frames {
         ensures { slice_get self.now number ≡ Some result.now }
     {
         if number == 0 {
-            &self.first
+            self.first.as_slice()
         } else {
             self.shelf.cells(self.made, number)
         }
@@ -148,10 +151,24 @@ impl Frames {
         ensures { self.new ≡ with_frame frame (λ vs. slice_set vs index value) self.old }
     {
         if frame == 0 {
-            write(&mut self.first, index, value);
+            write(self.first.as_mut_slice(), index, value);
             return;
         }
         self.shelf.write(self.made, frame, index, value);
+    }
+
+    /// Other cells of a frame. It gives those that it had; none where it was given back, and then nothing changes. No memory is taken.
+    pub fn replace(&mut self, frame: usize, cells: Cells) -> Option<Cells>
+        requires { frame < length self.old }
+        ensures given { IfSome result (λ given. given.items ≡ slice_index_or self.old frame []) }
+        ensures replaced { OnSome result (self.new ≡ with_frame frame (λ vs. cells.items) self.old) }
+        ensures kept { IsNone result → self.new ≡ self.old }
+        ensures some { 0 < length (slice_index_or self.old frame []) → IsSome result }
+    {
+        if frame == 0 {
+            return Some(mem::replace(&mut self.first, cells));
+        }
+        self.shelf.replace(self.made, frame, cells)
     }
 
     /// All frames are given back but the first one and those of these numbers, which are put in order meanwhile. No memory is taken.

@@ -1,7 +1,7 @@
 // What a running program keeps: its frames, which of them are open, and what the ends of calls copy back.
 #![tactic(auto)]
 
-mod cells;
+pub mod cells;
 pub mod display;
 pub mod frames;
 pub mod purpose;

@@ -1,20 +1,18 @@
 // Frames that are kept, each under a key.
 
-ghost use Rattle.std.specs.Prelude.{◌≡◌, ℕ, ◌+◌, ◌<◌, ◌++◌, [], replicate, slice_set, if◌then◌else◌, IfOk, IfErr, IfSome, IfNone, OnOk, OnErr};
+ghost use Rattle.std.specs.Prelude.{◌≡◌, ℕ, ◌+◌, ◌<◌, ◌++◌, [], length, replicate, slice_set, if◌then◌else◌, IfOk, IfErr, IfSome, IfNone, IsSome, IsNone, OnSome, OnOk, OnErr};
 ghost use Rattle.std.specs.List.{AllPairs};
 ghost use Rattle.std.specs.List.Sorted.{IsSorted};
 ghost use Rattle.std.specs.Ordering.{nat_cmp};
 ghost use Rattle.aud_meaning.specs.Parts.{contains};
 ghost use Rattle.aud_store.specs.Ties.Shelf.{cells_on, Changes, IsAt, IsGap, IsSame, IsShelf, Keeps, Precedes};
 
-use crate::cells::write;
+use crate::cells::{Cells, lengthen, write};
 use aud_text::int32::Int32;
 use slab::Slab;
 use smallvec::SmallVec;
 use std::alloc::{AllocError, Global};
-
-// Few cells need no memory of their own.
-type Cells = SmallVec<Int32, 6>;
+use std::mem;
 
 /// A frame that is kept, by its number, and the key under which its cells lie.
 #[derive(Clone, Copy)]
@@ -136,6 +134,19 @@ impl Shelf {
         }
     }
 
+    /// Other cells of the frame of a number. It gives those that it had; none where it is not kept, and then nothing changes.
+    pub(crate) fn replace(&mut self, made: usize, number: usize, cells: Cells) -> Option<Cells>
+        requires { IsShelf made self.old }
+        ensures shelf { IsShelf made self.new }
+        ensures given { IfSome result (λ given. given.items ≡ cells_on self.old number) }
+        ensures replaced { OnSome result (Changes number (λ none. cells.items) self.old self.new) }
+        ensures kept { IsNone result → self.new ≡ self.old }
+        ensures some { 0 < length (cells_on self.old number) → IsSome result }
+    {
+        let key = self.key(made, number)?;
+        Some(mem::replace(&mut self.slots[key], cells))
+    }
+
     /// Of the frames that are kept only those of these numbers are; the cells of the others are given back, and their keys come
     /// to be others'.
     pub(crate) fn retain(&mut self, named: &[usize])
@@ -225,16 +236,4 @@ fn is_among(named: &[usize], number: usize) -> bool
     ensures { result ≡ contains number named.now }
 {
     named.binary_search(&number).is_ok()
-}
-
-// More cells: so many, each with this value.
-fn lengthen(cells: &mut Cells, count: usize, value: Int32) -> Result<(), AllocError>
-    ensures longer { OnOk result (cells.new.items ≡ cells.old.items ++ replicate count value) }
-    ensures kept { OnErr result (cells.new.items ≡ cells.old.items) }
-{
-    cells.reserve(count)?;
-    for _ in 0..count {
-        cells.push_reserved(value);
-    }
-    Ok(())
 }

@@ -1,6 +1,6 @@
 // All frames ever made, and those that are open.
 
-ghost use Rattle.std.specs.Prelude.{◌≡◌, ◌<◌, ◌∷◌, ◌++◌, [], None, suc, pos, length, replicate, nat_le, IsNone, OnOk, OnErr, IfOk, slice_index_or};
+ghost use Rattle.std.specs.Prelude.{◌≡◌, ◌<◌, ◌∷◌, ◌++◌, [], None, suc, pos, length, replicate, nat_le, IsNone, IsSome, IfSome, OnSome, OnOk, OnErr, IfOk, slice_index_or, slice_set};
 ghost use Rattle.aud_text.specs.declared.limits.TheConstants.{FRAMES};
 ghost use Rattle.aud_meaning.specs.Evaluation.{frame_at};
 ghost use Rattle.aud_meaning.specs.Effects.{innermost, elaborated_in, handled, live_frames};
@@ -9,6 +9,7 @@ ghost use Rattle.aud_store.specs.Ties.Frames.{only_named};
 ghost use Rattle.aud_store.specs.Ties.Stored.{copies_of, declared, entered_after, innermost_cell};
 ghost use Rattle.aud_store.specs.Ties.Stored.{kept_by, plain_purpose, stored, with_function_value, IsInnermost};
 
+use crate::cells::Cells;
 use crate::frames::Frames;
 use crate::purpose::Purpose;
 use crate::stack::{Open, Stack};
@@ -245,6 +246,24 @@ impl Store {
         if frame < self.frames.len() {
             self.frames.assign(frame, index, value);
         }
+    }
+
+    /// Other cells of a frame. It gives those that it had; none where there is no such frame or it was given back, and then nothing
+    /// changes. No memory is taken.
+    pub fn replace(&mut self, frame: usize, cells: Cells) -> Option<Cells>
+        ensures within { OnSome result (frame < length self.old.frames) }
+        ensures given { IfSome result (λ given.
+            given.items ≡ slice_index_or self.old.frames frame []) }
+        ensures replaced { OnSome result (self.new ≡ record self.old {
+          frames = slice_set self.old.frames frame cells.items;
+        }) }
+        ensures kept { IsNone result → self.new ≡ self.old }
+        ensures some { 0 < length (slice_index_or self.old.frames frame []) → IsSome result }
+    {
+        if frame < self.frames.len() {
+            return self.frames.replace(frame, cells);
+        }
+        None
     }
 
     /// The numbers of the frames that are seen, outermost first.

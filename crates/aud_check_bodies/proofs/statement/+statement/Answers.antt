@@ -274,24 +274,24 @@ accept-returns t c =
     let e = accepted x.name place in
     let old = c.args.faults.now in
     let headed = c.accept_head.new.faults in
-    let stated = c.body.new.faults in
+    let stated = c.body-parts.new.faults in
     let new = c.right_name_at_end.new.faults in
     let entry = plain_tables c.enter.new.self in
-    let u = plain_tables c.body.new.tables in
+    let u = plain_tables c.body-parts.new.tables in
     let outer = c.in_ok-outer.outer in
     let own = c.in_ok-head.head.region in
     let region : Region = (accept_formals fs place).region in
     let source = plain_body c.in-Some.source.value in
     let parts = plain_parts c.in_ok-parts.parts in
     let inner_around : Around = record { labels = []; in_handler = c.args.within.in_handler; leaves = leaves.Procedure; accepting = c.deref-3.result.now } in
-    let inner_place : Place = c.new.result in
+    let inner_place : Place = c.new-among.result in
     let same_region : plain_region own ≡ region = h.region ∙ ap (λ l. (accept_formals (map plain_formal l) place).region) c.deref.ensures.value in
     let noted_head : headed ≡ noted old (accept_faults x.name fs around.accepting place tables) =
     subst (λ l. headed ≡ noted old (accept_faults x.name (map plain_formal l) around.accepting place tables)) c.deref.ensures.value h.noted in
     let within : inner_around ≡ in_accept e around =
     ap (λ l. record { labels = []; in_handler = c.args.within.in_handler; leaves = leaves.Procedure; accepting = l }) (c.deref-3.ensures.value ∙ c.in_ok-accepting.ensures ∙ ap (λ z. with_accepted z around.accepting) h.entry) in
     let inner : inner_place ≡ place_in region place.regions =
-    c.new.ensures ∙ ap (λ rs. plain_place own rs) c.deref-2.ensures.value ∙ ap (λ r. place_in r (plain_regions outer.items)) same_region ∙ ap (place_in region) c.in_ok-outer.ensures in
+    c.new-among.ensures ∙ ap (λ rs. plain_place own rs) c.deref-2.ensures.value ∙ ap (λ r. place_in r (plain_regions outer.items)) same_region ∙ ap (place_in region) c.in_ok-outer.ensures in
     let entered : entry ≡ with_region (shown_names region.symbols) tables =
     c.in_ok-region.ensures.tables ∙ ap (λ (r : Region). with_region (shown_names r.symbols) tables) same_region in
     let ends : new ≡ noted stated (right_name_at_end x.name.name (end_name source)) =
@@ -302,7 +302,8 @@ accept-returns t c =
     ap (λ n. made n c.in_ok-region.region) (c.number_of-entry.ensures ∙ ap number_of h.entry) ∙ ap (made (number_of e)) c.in_ok-region.ensures.number in
     let done : plain_done x.doing ≡ m.with_do source = ap plain_done c.in-Some.is in
     let in_body : Is headed stated u parts (checked_body source inner_around inner_place entry) =
-    subst (λ z. Is headed stated u parts (checked_body (plain_body z) inner_around inner_place entry)) c.deref-4.ensures c.in_ok-parts.ensures in
+    subst (λ z. Is headed stated u parts (checked_body (plain_body z) inner_around inner_place entry)) c.deref-4.ensures
+    (subst (λ r. Checks plain_parts r headed stated u (checked_body (plain_body c.deref-4.result.now) inner_around inner_place entry)) c.in_ok-parts.was c.body-parts.ensures) in
     let all_made : IfOk c.accept_doing.result (λ a. plain_accepted a.value ≡ made c.number_of-entry.result c.in_ok-region.region) =
     subst (λ z. IfOk c.accept_doing.result (λ a. plain_accepted a.value ≡ record { at = x.at; entry = c.number_of-entry.result; doing = tree.with_do c.in_ok-region.region (body_with [] (plain_body z) parts) })) c.deref-6.ensures c.accept_doing.ensures in
     let opened : plain_accept c.args.node.now ≡ m.accept x.at x.name fs (m.with_do source) = accept_open c.args.node.now ∙ ap (m.accept x.at x.name fs) done in
@@ -632,12 +633,12 @@ for_loop-returns t c =
     let number = c.in_ok-region.region in
     let b = c.in_ok-bounds-2 in
     let ss : tree.Statement = statements_in b.body.value in
-    let among : Place = c.new.result in
+    let among : Place = c.new-among.result in
     let entry : Tables = plain_tables c.enter.new.self in
     let given = checked_statements (plain_statements x.statements) (labelled true x.label around) among entry in
     let stated : Checks (in_box plain_sequence) (Ok b.body) bounded new u given = subst (λ r. Checks (in_box plain_sequence) r bounded new u given) b.ensures.next c.loop_body-body.ensures in
     let inner : among ≡ in_loop p.name place =
-    c.new.ensures ∙ ap (λ rs. plain_place own rs) c.deref.ensures.value ∙ ap (λ r. place_in r (plain_regions outer.items)) c.in_ok-own.ensures ∙ ap (place_in (loop_region p.name place)) c.in_ok-outer.ensures in
+    c.new-among.ensures ∙ ap (λ rs. plain_place own rs) c.deref.ensures.value ∙ ap (λ r. place_in r (plain_regions outer.items)) c.in_ok-own.ensures ∙ ap (place_in (loop_region p.name place)) c.in_ok-outer.ensures in
     let entered : entry ≡ with_region (shown_names (loop_region p.name place).symbols) tables =
     c.in_ok-region.ensures.tables ∙ ap (λ (r : Region). with_region (shown_names r.symbols) tables) c.in_ok-own.ensures in
     let head : Pos → ℕ → tree.For = λ z n. record { at = z; next_at = x.at; region = n; backward = p.reverse } in
@@ -661,9 +662,9 @@ block_statement-returns t c =
     let old = c.args.faults.now in
     let named = c.right_label_at_end.new.faults in
     let declared = c.declared.new.faults in
-    let new = c.body_behind.new.faults in
+    let new = c.body_behind-body.new.faults in
     let entry = plain_tables c.declared.new.tables in
-    let u = plain_tables c.body_behind.new.tables in
+    let u = plain_tables c.body_behind-body.new.tables in
     let outer = c.in_ok-outer.outer in
     let region = c.in_ok-region.region in
     let part = c.in_ok-part.part in
@@ -679,13 +680,24 @@ block_statement-returns t c =
     (subst (λ rs. Enters named declared rs part (next_region tables) entry (own (plain_declarations c.deref-3.result.now) (plain_place region rs))) c.deref-4.ensures.value c.in_ok-part.ensures) in
     let stated : Is declared new u body (body_behind false (plain_items part.elaborations) source behind (plain_place part.region outer.items) entry) =
     subst (λ rs. Is declared new u body (body_behind false (plain_items part.elaborations) source behind (plain_place part.region rs) entry)) c.deref.ensures.value
-    (subst (λ ls. Is declared new u body (body_behind false (plain_items part.elaborations) source (record { labels = ls; in_handler = c.args.within.in_handler; leaves = c.args.within.leaves; accepting = c.args.within.accepting.now }) (plain_place part.region c.deref.result.now) entry)) labels c.in_ok-body.ensures) in
+    (subst (λ ls. Is declared new u body (body_behind false (plain_items part.elaborations) source (record { labels = ls; in_handler = c.args.within.in_handler; leaves = c.args.within.leaves; accepting = c.args.within.accepting.now }) (plain_place part.region c.deref.result.now) entry)) labels
+    (subst (λ r. Checks (in_box plain_typed_body) r declared new u (body_behind false (plain_items part.elaborations) source (record { labels = plain_labels c.deref-2.result.now; in_handler = c.args.within.in_handler; leaves = c.args.within.leaves; accepting = c.args.within.accepting.now }) (plain_place part.region c.deref.result.now) entry)) c.in_ok-body.was c.body_behind-body.ensures)) in
     let whole = entered_left named declared new tables entry u false ds source behind (in_frame place) (plain_place part.region outer.items) (plain_items part.elaborations) body enters.0 enters.1 enters.2 enters.3 stated in
     let named_all : named ≡ noted old (right_label_at_end x.label (end_name source) (end_semicolon source)) =
     c.right_label_at_end.ensures ∙ ap (λ z. noted old (right_label_at_end x.label (end_name z) (end_semicolon z))) (sym (body_open x.body)) in
     let number = c.next_region-number.result in
     let is = ap (λ z. tree.block z number body) c.begin_at.ensures ∙ ap (λ n. tree.block (begin_at x.label x.at) n body) c.next_region-number.ensures in
     block_left c.block_of.result old named new tables u x.label x.at x.declare ds source around place body (tree.block c.begin_at.result number body) named_all whole is c.block_of.ensures
+
+pub declared-loop-next-init : goal.declared-loop-next-init
+declared-loop-next-init t c = declares_all c.args.faults.now _ _
+
+pub declared-loop-next-preserved : goal.declared-loop-next-preserved
+declared-loop-next-preserved t c =
+    let x = c.next-item.result in
+    let i = c.loop-next.next-index in
+    declarations_ahead c.args.outer.now c.args.faults.now c.loop-next.faults c.declaration.new.faults _ c.loop-next.part c.declaration.new.part (plain_tables c.loop-next.tables) (plain_tables c.declaration.new.tables)
+    (checked_declarations (plain_declarations c.args.source.now) (plain_place c.args.region c.args.outer.now) (plain_tables c.keep_region.new.self)) x (drop i c.args.source.now) (drop (i + 1) c.args.source.now) (dropped c.args.source.now i x (omega arith) c.next-item.is) c.loop-next.invariant c.in_ok-declaration.ensures
 
 pub declared-returns : goal.declared-returns
 declared-returns t c =
@@ -694,7 +706,7 @@ declared-returns t c =
     let tables = plain_tables c.args.tables.now in
     let old = c.args.faults.now in
     let kept = plain_tables c.keep_region.new.self in
-    let part = c.declarations.new.part in
+    let part = c.loop-next.part in
     let ds = plain_declarations c.args.source.now in
     let d : Outcome Declared = with_bodies (checked_declarations ds place (region_kept tables)) in
     let given : Outcome Declared = with_bodies (checked_declarations ds place kept) in
@@ -702,21 +714,52 @@ declared-returns t c =
     let checked = (checked_declarations ds place kept).faults in
     let missed : Place → List Fault = λ z. without_bodies (innermost z).awaited ++ without_object_bodies (innermost z).objects in
     let behind = part.region in
-    let all = c.in_ok-declarations.ensures in
+    let all = all_declared seen old c.loop-next.faults _ part (plain_tables c.loop-next.tables) (checked_declarations ds place kept) (drop c.loop-next.next-index c.args.source.now) (drop_all c.loop-next.next-index c.args.source.now c.loop-next-test.false) c.loop-next.invariant in
     let entry : Tables = plain_tables c.name_region.new.self in
     let named : ℕ → Place → Tables → Tables = λ n z w. region_named n (shown_names (innermost z).symbols) w in
     let into : entry ≡ named (next_region tables) d.made.place d.tables =
-    c.in_ok-name_region.ensures ∙ ap (λ n. named n (plain_place part.region seen) (plain_tables c.declarations.new.tables)) c.next_region-number.ensures ∙ ap (λ z. named (next_region tables) z (plain_tables c.declarations.new.tables)) all.1
+    c.in_ok-name_region.ensures ∙ ap (λ n. named n (plain_place part.region seen) (plain_tables c.loop-next.tables)) c.next_region-number.ensures ∙ ap (λ z. named (next_region tables) z (plain_tables c.loop-next.tables)) all.1
     ∙ ap (named (next_region tables) given.made.place) all.3 ∙ ap (λ (g : Outcome Declared). named (next_region tables) g.made.place g.tables) same in (
       c.without_object_bodies.ensures ∙ ap (λ l. noted c.without_bodies.new.faults (without_object_bodies l)) c.deref-2.ensures.value
-          ∙ ap (λ o. noted o (without_object_bodies behind.objects.items)) (c.without_bodies.ensures ∙ ap (λ l. noted c.declarations.new.faults (without_bodies l)) c.deref.ensures.value)
-          ∙ sym (noted_append c.declarations.new.faults (without_bodies behind.awaited.items) (without_object_bodies behind.objects.items))
+          ∙ ap (λ o. noted o (without_object_bodies behind.objects.items)) (c.without_bodies.ensures ∙ ap (λ l. noted c.loop-next.faults (without_bodies l)) c.deref.ensures.value)
+          ∙ sym (noted_append c.loop-next.faults (without_bodies behind.awaited.items) (without_object_bodies behind.objects.items))
           ∙ ap (λ o. noted o (missed (plain_place behind seen))) all.0 ∙ ap (λ z. noted (noted old checked) (missed z)) all.1
           ∙ sym (noted_append old checked (missed given.made.place)) ∙ ap (λ (g : Outcome Declared). noted old g.faults) same,
       all.1 ∙ ap (λ (g : Outcome Declared). g.made.place) same,
       all.2 ∙ ap (λ l. plain_typed_statements l ++ given.made.elaborations) c.new.ensures.items ∙ ap (λ (g : Outcome Declared). g.made.elaborations) same,
       into,
     )
+
+pub bodies_within-loop-next-init : goal.bodies_within-loop-next-init
+bodies_within-loop-next-init t c = all_ahead c.args.faults.now (checked_bodies (operation_body_list (out-ProtectedBody c.args.node.now).bodies.items) (both_places c.args.declared_parts c.args.inside c.args.in_function) c.args.awaited.now.items (plain_tables c.args.tables.now))
+
+pub bodies_within-loop-next-preserved : goal.bodies_within-loop-next-preserved
+bodies_within-loop-next-preserved t c =
+    let xs = (out-ProtectedBody c.args.node.now).bodies.items in
+    let seen = c.deref-next-items.result.now in
+    let x = c.next-item.result in
+    let i = c.loop-next.next-index in
+    let d = c.args.declared_parts in
+    let places : BodyPlaces = both_places d c.args.inside c.args.in_function in
+    let stands = c.place_of.result in
+    let tables : Tables = plain_tables c.loop-next.tables in
+    let awaited = c.loop-next.awaited.items in
+    let still = c.operation_body.new.awaited.items in
+    let mid = c.loop-next.faults in
+    let new = c.operation_body.new.faults in
+    let u : Tables = plain_tables c.operation_body.new.tables in
+    let rest : drop i xs ≡ x ∷ drop (i + 1) xs = subst (λ l. drop i l ≡ x ∷ drop (i + 1) l) c.deref-next-items.ensures.value (dropped seen i x (omega arith) c.next-item.is) in
+    let same = stands_in_one x d.object d.parts.now (plain_place stands.0.now stands.1.now) places.inside places.in_function awaited tables c.place_of.ensures in
+    one_body places c.args.faults.now mid new tables u awaited still x (drop i xs) (drop (i + 1) xs)
+    (checked_bodies (operation_body_list xs) places c.args.awaited.now.items (plain_tables c.args.tables.now))
+    rest c.loop-next.invariant (subst (ChecksBodies mid new still u) same c.in_ok-operation_body.ensures)
+
+pub bodies_within-returns : goal.bodies_within-returns
+bodies_within-returns t c =
+    let xs = (out-ProtectedBody c.args.node.now).bodies.items in
+    let i = c.loop-next.next-index in
+    all_bodies (both_places c.args.declared_parts c.args.inside c.args.in_function) c.args.faults.now c.loop-next.faults (plain_tables c.loop-next.tables) c.loop-next.awaited.items (drop i xs)
+    (checked_bodies (operation_body_list xs) (both_places c.args.declared_parts c.args.inside c.args.in_function) c.args.awaited.now.items (plain_tables c.args.tables.now)) (subst (λ l. drop i l ≡ []) c.deref-next-items.ensures.value (drop_all i c.deref-next-items.result.now c.loop-next-test.false)) c.loop-next.invariant
 
 pub body_behind-returns : goal.body_behind-returns
 body_behind-returns t c =
@@ -727,7 +770,7 @@ body_behind-returns t c =
     let old = c.args.faults.now in
     let new = c.body-parts.new.faults in
     let u = plain_tables c.body-parts.new.tables in
-    let among : Place = c.new.result in
+    let among : Place = c.new-scope.result in
     let b = c.in_ok-elaborations in
     let made : TypedBody = plain_parts b.parts in
     let stated : Is old new u made (checked_body source around among tables) = subst (λ r. Checks plain_parts r old new u (checked_body source around among tables)) b.ensures.next c.body-parts.ensures in
@@ -740,7 +783,7 @@ body_behind-returns t c =
     let begun : elaborated (plain_items b.elaborations) (begin_of source) ≡ with_activation of_task (begin_of source) given =
     ap (λ v. elaborated (plain_items v) (begin_of source)) b.ensures.first ∙ subst (λ at. elaborated (plain_items c.with_activation.new.elaborations) at ≡ with_activation of_task at given) opened c.in_ok-activates.ensures in
     behind_left c.body_of.result old new tables u of_task source around place among given made (body_with (elaborated (plain_items b.elaborations) (begin_of source)) source made)
-    c.new.ensures stated (ap (λ l. body_with l source made) begun) c.body_of.ensures
+    c.new-scope.ensures stated (ap (λ l. body_with l source made) begun) c.body_of.ensures
 
 pub procedure_part-returns : goal.procedure_part-returns
 procedure_part-returns t c =
@@ -757,10 +800,10 @@ procedure-returns t c =
     let named = c.declare_procedure.new.faults in
     let formed = c.formals.new.faults in
     let shown_faults = c.procedure_part.new.faults in
-    let stated_faults = c.body_behind.new.faults in
+    let stated_faults = c.body_behind-body.new.faults in
     let new = c.right_name_at_end.new.faults in
     let shown_tables = plain_tables c.procedure_part.new.tables in
-    let u = plain_tables c.body_behind.new.tables in
+    let u = plain_tables c.body_behind-body.new.tables in
     let number = c.next_unit-number.result in
     let declared = c.declare_procedure.new.region in
     let last : DeclarativePart = record { region = declared; elaborations = first.elaborations } in
@@ -793,7 +836,8 @@ procedure-returns t c =
     let enters : Enters formed shown_faults regions.items part (next_region entry) shown_tables (in_it ds own) =
     subst (λ rs. Enters formed shown_faults rs part (next_region entry) shown_tables (in_it ds (plain_place c.formals.new.region rs))) c.deref-3.ensures.value c.in_ok-inner.ensures in
     let stated : Is shown_faults stated_faults u body (body_behind false (plain_items part.elaborations) source nothing_around (plain_place part.region regions.items) shown_tables) =
-    subst (λ rs. Is shown_faults stated_faults u body (body_behind false (plain_items part.elaborations) source nothing_around (plain_place part.region rs) shown_tables)) c.deref-4.ensures.value c.in_ok-body.ensures in
+    subst (λ rs. Is shown_faults stated_faults u body (body_behind false (plain_items part.elaborations) source nothing_around (plain_place part.region rs) shown_tables)) c.deref-4.ensures.value
+    (subst (λ r. Checks (in_box plain_typed_body) r shown_faults stated_faults u (body_behind false (plain_items part.elaborations) source nothing_around (plain_place part.region c.deref-4.result.now) shown_tables)) c.in_ok-body.was c.body_behind-body.ensures) in
     let whole = entered_left formed shown_faults stated_faults entry shown_tables u false ds source nothing_around own (plain_place part.region regions.items) (plain_items part.elaborations) body enters.0 enters.1 enters.2 enters.3 stated in
     let ends : new ≡ noted stated_faults (right_name_at_end x.name.name (end_name source)) =
     c.right_name_at_end.ensures ∙ ap (λ z. noted stated_faults (right_name_at_end x.name.name (end_name z))) (sym (body_open x.body)) in
@@ -872,11 +916,11 @@ operation_body-returns t c =
     let shaped = c.body_shape.new.faults in
     let headed = c.matched-unit.new.faults in
     let shown_faults = c.operation_part.new.faults in
-    let stated_faults = c.body_behind.new.faults in
+    let stated_faults = c.body_behind-body.new.faults in
     let new = c.right_name_at_end.new.faults in
     let entry : Tables = plain_tables c.matched-unit.new.tables in
     let shown_tables = plain_tables c.operation_part.new.tables in
-    let u = plain_tables c.body_behind.new.tables in
+    let u = plain_tables c.body_behind-body.new.tables in
     let fs = map plain_formal x.formals.items in
     let ds = plain_declarations x.declarations.items in
     let source = plain_body x.body in
@@ -899,7 +943,7 @@ operation_body-returns t c =
     let regions = c.in_ok-regions.regions in
     let own = plain_place b.shape.region regions.items in
     let inner : own ≡ place_in shape.region here.regions =
-    ap (λ r. place_in r (plain_regions regions.items)) (ap (λ (s : Shape). s.region) still_shape) ∙ ap (place_in shape.region) c.in_ok-regions.ensures ∙ ap (λ (z : Place). place_in shape.region z.regions) c.new.ensures in
+    ap (λ r. place_in r (plain_regions regions.items)) (ap (λ (s : Shape). s.region) still_shape) ∙ ap (place_in shape.region) c.in_ok-regions.ensures in
     let part = c.in_ok-inner.inner in
     let body = plain_typed_body c.in_ok-body.body.value in
     let made = plain_typed_unit c.in_ok-unit.unit.value in
@@ -910,7 +954,8 @@ operation_body-returns t c =
     let left : leaving_body c.head_leaves.result ≡ around = ap leaving_body (c.head_leaves.ensures ∙ ap (λ (s : Shape). head_leaves head s.returned) still_shape) in
     let stated : Is shown_faults stated_faults u body (body_behind false (plain_items part.elaborations) source around (plain_place part.region regions.items) shown_tables) =
     subst (λ a. Is shown_faults stated_faults u body (body_behind false (plain_items part.elaborations) source a (plain_place part.region regions.items) shown_tables)) left
-    (subst (λ rs. Is shown_faults stated_faults u body (body_behind false (plain_items part.elaborations) source (leaving_body c.head_leaves.result) (plain_place part.region rs) shown_tables)) c.deref-3.ensures.value c.in_ok-body.ensures) in
+    (subst (λ rs. Is shown_faults stated_faults u body (body_behind false (plain_items part.elaborations) source (leaving_body c.head_leaves.result) (plain_place part.region rs) shown_tables)) c.deref-3.ensures.value
+    (subst (λ r. Checks (in_box plain_typed_body) r shown_faults stated_faults u (body_behind false (plain_items part.elaborations) source (leaving_body c.head_leaves.result) (plain_place part.region c.deref-3.result.now) shown_tables)) c.in_ok-body.was c.body_behind-body.ensures)) in
     let whole = entered_left headed shown_faults stated_faults entry shown_tables u false ds source around own (plain_place part.region regions.items) (plain_items part.elaborations) body enters.0 enters.1 enters.2 enters.3 stated in
     let ends : new ≡ noted stated_faults (right_name_at_end i.name (end_name source)) =
     c.right_name_at_end.ensures ∙ ap (λ z. noted stated_faults (right_name_at_end i.name (end_name z))) (sym (body_open x.body)) in
@@ -925,36 +970,6 @@ operation_body-returns t c =
     subst (ChecksBodies old new c.matched-unit.new.awaited.items end) (sym opened)
     (operation_left_here old headed new tables entry u end head x.at i fs ds source object parts here awaited c.matched-unit.new.awaited.items own made noted_head inner kept checked still put)
 
-pub operation_bodies-loop-next-init : goal.operation_bodies-loop-next-init
-operation_bodies-loop-next-init t c = all_ahead c.args.faults.now (checked_bodies (operation_body_list c.args.bodies.now) (both_places c.args.declared_parts c.args.inside c.args.in_function) c.args.awaited.now.items (plain_tables c.args.tables.now))
-
-pub operation_bodies-loop-next-preserved : goal.operation_bodies-loop-next-preserved
-operation_bodies-loop-next-preserved t c =
-    let x = c.next-item.result in
-    let i = c.loop-next.next-index in
-    let d = c.args.declared_parts in
-    let places : BodyPlaces = both_places d c.args.inside c.args.in_function in
-    let stands = c.place_of.result in
-    let tables : Tables = plain_tables c.loop-next.tables in
-    let awaited = c.loop-next.awaited.items in
-    let still = c.operation_body.new.awaited.items in
-    let mid = c.loop-next.faults in
-    let new = c.operation_body.new.faults in
-    let u : Tables = plain_tables c.operation_body.new.tables in
-    let same = stands_in_one x d.object d.parts.now (plain_place stands.0.now stands.1.now) places.inside places.in_function awaited tables c.place_of.ensures in
-    one_body places c.args.faults.now mid new tables u awaited still x (drop i c.args.bodies.now) (drop (i + 1) c.args.bodies.now)
-    (checked_bodies (operation_body_list c.args.bodies.now) places c.args.awaited.now.items (plain_tables c.args.tables.now))
-    (dropped c.args.bodies.now i x (omega arith) c.next-item.is) c.loop-next.invariant (subst (ChecksBodies mid new still u) same c.in_ok-operation_body.ensures)
-
-pub operation_bodies-returns : goal.operation_bodies-returns
-operation_bodies-returns t c =
-    all_bodies (both_places c.args.declared_parts c.args.inside c.args.in_function) c.args.faults.now c.loop-next.faults (plain_tables c.loop-next.tables) c.loop-next.awaited.items (drop c.loop-next.next-index c.args.bodies.now)
-    (checked_bodies (operation_body_list c.args.bodies.now) (both_places c.args.declared_parts c.args.inside c.args.in_function) c.args.awaited.now.items (plain_tables c.args.tables.now)) (drop_all c.loop-next.next-index c.args.bodies.now c.loop-next-test.false) c.loop-next.invariant
-
-pub bodies_within-returns : goal.bodies_within-returns
-bodies_within-returns t c =
-    subst (λ l. OnOk c.operation_bodies.result (ChecksBodies c.args.faults.now c.operation_bodies.new.faults c.operation_bodies.new.awaited.items (plain_tables c.operation_bodies.new.tables) (checked_bodies (operation_body_list l) (both_places c.args.declared_parts c.args.inside c.args.in_function) c.args.awaited.now.items (plain_tables c.args.tables.now)))) c.deref.ensures.value c.operation_bodies.ensures
-
 pub protected_body-returns : goal.protected_body-returns
 protected_body-returns t c =
     let x = out-ProtectedBody c.args.node.now in
@@ -965,11 +980,11 @@ protected_body-returns t c =
     let tables : Tables = plain_tables c.args.tables.now in
     let old = c.args.faults.now in
     let matched = c.body_number.new.faults in
-    let bodied = c.bodies_within.new.faults in
+    let bodied = c.bodies_within-checked.new.faults in
     let missed = c.without_part_bodies.new.faults in
     let new = c.right_name_at_end.new.faults in
     let entry : Tables = plain_tables c.body_number.new.tables in
-    let u : Tables = plain_tables c.bodies_within.new.tables in
+    let u : Tables = plain_tables c.bodies_within-checked.new.tables in
     let come = c.body_number.new.region in
     let last : DeclarativePart = record { region = come; elaborations = first.elaborations } in
     let here : Place = object_behind i place in
@@ -983,21 +998,23 @@ protected_body-returns t c =
     c.in_ok-awaited.ensures ∙ ap (awaited_parts object) (c.deref.ensures.value ∙ parts) ∙ ap (λ n. awaited_parts n (innermost here).parts) numbered in
     let inside : plain_place c.in_ok-inside.inside.own c.deref-3.result.now ≡ object_place i.name number Inside here =
     ap (plain_place c.in_ok-inside.inside.own) c.deref-3.ensures.value
-    ∙ stands_in c.in_ok-inside.inside come seen c.in_ok-around.around.items i.name object number Inside here c.in_ok-inside.ensures c.in_ok-around.ensures behind numbered in
-    let in_function : plain_place c.in_ok-in_function.in_function.own c.deref-4.result.now ≡ object_place i.name number InFunction here =
-    ap (plain_place c.in_ok-in_function.in_function.own) c.deref-4.ensures.value
-    ∙ stands_in c.in_ok-in_function.in_function come seen c.in_ok-around_function.around_function.items i.name object number InFunction here c.in_ok-in_function.ensures c.in_ok-around_function.ensures behind numbered in
-    let places = places_are object number c.deref-2.result.now (plain_place c.in_ok-inside.inside.own c.deref-3.result.now) (plain_place c.in_ok-in_function.in_function.own c.deref-4.result.now) i.name here
+    ∙ stands_in c.in_ok-inside.inside come seen c.in_ok-around.around.items i.name object number Inside here c.in_ok-inside.ensures.inside c.in_ok-around.ensures.inside behind numbered in
+    let in_function : plain_place c.in_ok-inside.in_function.own c.deref-4.result.now ≡ object_place i.name number InFunction here =
+    ap (plain_place c.in_ok-inside.in_function.own) c.deref-4.ensures.value
+    ∙ stands_in c.in_ok-inside.in_function come seen c.in_ok-around.around_function.items i.name object number InFunction here c.in_ok-inside.ensures.in_function c.in_ok-around.ensures.in_function behind numbered in
+    let b = c.in_ok-awaited-2 in
+    let seen_places : BodyPlaces = record { object = object; parts = c.deref-2.result.now; inside = plain_place c.in_ok-inside.inside.own c.deref-3.result.now; in_function = plain_place c.in_ok-inside.in_function.own c.deref-4.result.now } in
+    let places = places_are object number c.deref-2.result.now (plain_place c.in_ok-inside.inside.own c.deref-3.result.now) (plain_place c.in_ok-inside.in_function.own c.deref-4.result.now) i.name here
     numbered (c.deref-2.ensures.value ∙ parts) inside in_function in
-    let still = c.bodies_within.new.awaited.items in
+    let still = c.bodies_within-checked.new.awaited.items in
     let given : m.OperationBodies → BodyPlaces → List AwaitedPart → Type 0 = λ l o a. ChecksBodies matched bodied still u (checked_bodies l o a entry) in
     let bodies = operation_body_list x.bodies.items in
     let checked : given bodies (body_places i.name number here) (awaited_parts number (innermost here).parts) =
     subst (λ a. given bodies (body_places i.name number here) a) listed
-    (subst (λ o. given bodies o c.in_ok-awaited.awaited.items) places c.in_ok-bodies_within.ensures) in
+    (subst (λ o. given bodies o c.in_ok-awaited.awaited.items) places (subst (λ r. OnOk r (given bodies seen_places c.in_ok-awaited.awaited.items)) b.ensures.next c.bodies_within-checked.ensures)) in
     subst (λ z. Declares old new seen first last u (checked_declaration z place tables)) (sym (protected_body_open c.args.node.now))
     (object_left old matched bodied missed new seen first last tables entry u x.at i bodies x.end_name still c.in_ok-object.ensures.noted behind refl c.in_ok-object.ensures.tables checked
-    (c.without_part_bodies.ensures ∙ ap (λ l. noted bodied (without_part_bodies l)) c.deref-5.ensures.value) c.right_name_at_end.ensures)
+    (c.without_part_bodies.ensures ∙ ap (λ l. noted bodied (without_part_bodies l)) (c.deref-5.ensures.value ∙ ap (λ (v : Vec AwaitedPart Global). v.items) b.ensures.first)) c.right_name_at_end.ensures)
 
 pub task_part-returns : goal.task_part-returns
 task_part-returns t c =
@@ -1013,11 +1030,11 @@ task_body-returns t c =
     let old = c.args.faults.now in
     let matched = c.body_numbers.new.faults in
     let shown_faults = c.task_part.new.faults in
-    let stated_faults = c.body_behind.new.faults in
+    let stated_faults = c.body_behind-body.new.faults in
     let new = c.right_name_at_end.new.faults in
     let entry = plain_tables c.body_numbers.new.tables in
     let shown_tables = plain_tables c.task_part.new.tables in
-    let u = plain_tables c.body_behind.new.tables in
+    let u = plain_tables c.body_behind-body.new.tables in
     let come = c.body_numbers.new.region in
     let last : DeclarativePart = record { region = come; elaborations = first.elaborations } in
     let ds = plain_declarations x.declarations.items in
@@ -1047,7 +1064,8 @@ task_body-returns t c =
     let enters : Enters matched shown_faults regions.items part (next_region entry) shown_tables (in_it ds own) =
     subst (λ rs. Enters matched shown_faults rs part (next_region entry) shown_tables (in_it ds (plain_place c.in_ok-region.region rs))) c.deref-2.ensures.value c.in_ok-inner.ensures in
     let stated : Is shown_faults stated_faults u body (body_behind true (plain_items part.elaborations) source task_around (plain_place part.region regions.items) shown_tables) =
-    subst (λ rs. Is shown_faults stated_faults u body (body_behind true (plain_items part.elaborations) source task_around (plain_place part.region rs) shown_tables)) c.deref-3.ensures.value c.in_ok-body.ensures in
+    subst (λ rs. Is shown_faults stated_faults u body (body_behind true (plain_items part.elaborations) source task_around (plain_place part.region rs) shown_tables)) c.deref-3.ensures.value
+    (subst (λ r. Checks (in_box plain_typed_body) r shown_faults stated_faults u (body_behind true (plain_items part.elaborations) source task_around (plain_place part.region c.deref-3.result.now) shown_tables)) c.in_ok-body.was c.body_behind-body.ensures) in
     let whole = entered_left matched shown_faults stated_faults entry shown_tables u true ds source task_around own (plain_place part.region regions.items) (plain_items part.elaborations) body enters.0 enters.1 enters.2 enters.3 stated in
     let ends : new ≡ noted stated_faults (right_name_at_end x.name.name (end_name source)) =
     c.right_name_at_end.ensures ∙ ap (λ z. noted stated_faults (right_name_at_end x.name.name (end_name z))) (sym (body_open x.body)) in
@@ -1062,21 +1080,6 @@ task_body-returns t c =
     c.put_unit.ensures ∙ ap (λ n. with_unit n (plain_typed_unit c.into_inner.result) u) number ∙ ap (λ v. with_unit (body_unit found tables) (plain_typed_unit v) u) c.into_inner.ensures in
     subst (λ z. Declares old new seen first last end (checked_declaration z place tables)) (sym (task_body_open c.args.node.now))
     (task_left old matched new seen first last tables entry u end x.at x.name ds source own made c.in_ok-numbers.ensures.noted behind refl inner c.in_ok-numbers.ensures.tables checked put)
-
-pub declarations-loop-next-init : goal.declarations-loop-next-init
-declarations-loop-next-init t c = declares_all c.args.faults.now c.args.part.now (checked_declarations (plain_declarations c.args.declarations.now) (plain_place c.args.part.now.region c.args.outer.now) (plain_tables c.args.tables.now))
-
-pub declarations-loop-next-preserved : goal.declarations-loop-next-preserved
-declarations-loop-next-preserved t c =
-    let x = c.next-item.result in
-    let i = c.loop-next.next-index in
-    declarations_ahead c.args.outer.now c.args.faults.now c.loop-next.faults c.declaration.new.faults c.args.part.now c.loop-next.part c.declaration.new.part (plain_tables c.loop-next.tables) (plain_tables c.declaration.new.tables)
-    (checked_declarations (plain_declarations c.args.declarations.now) (plain_place c.args.part.now.region c.args.outer.now) (plain_tables c.args.tables.now)) x (drop i c.args.declarations.now) (drop (i + 1) c.args.declarations.now) (dropped c.args.declarations.now i x (omega arith) c.next-item.is) c.loop-next.invariant c.in_ok-declaration.ensures
-
-pub declarations-returns : goal.declarations-returns
-declarations-returns t c =
-    all_declared c.args.outer.now c.args.faults.now c.loop-next.faults c.args.part.now c.loop-next.part (plain_tables c.loop-next.tables)
-    (checked_declarations (plain_declarations c.args.declarations.now) (plain_place c.args.part.now.region c.args.outer.now) (plain_tables c.args.tables.now)) (drop c.loop-next.next-index c.args.declarations.now) (drop_all c.loop-next.next-index c.args.declarations.now c.loop-next-test.false) c.loop-next.invariant
 
 pub body-returns : goal.body-returns
 body-returns t c =

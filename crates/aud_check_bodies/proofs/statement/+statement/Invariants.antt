@@ -1,4 +1,5 @@
 use Rattle.std.proofs.Common.{drop, map}
+use Rattle.aud_syntax.specs.declared.tree.ProtectedBody.{out-ProtectedBody}
 use Rattle.aud_syntax.specs.Ties.View.{plain_others, arm_list, guarded_list, handler_list, plain_declarations, operation_body_list}
 use Rattle.aud_typed.specs.Ties.View.{plain_statement}
 use Rattle.aud_check_bodies.specs.Statements.{checked_others, checked_arms, checked_alternatives, checked_handlers, checked_declarations, checked_bodies}
@@ -24,10 +25,10 @@ invariant-handlers-loop-next l = Left (map plain_handler l.typed.items) l.faults
 abbrev pub invariant-alternatives-loop-next : goal.invariant-alternatives-loop-next
 invariant-alternatives-loop-next l = Left (map plain_alternative l.typed.items) l.faults (checked_alternatives (guarded_list (drop l.next-index l.others)) (around_of l.within) l.within.scope.now (plain_tables l.tables)) l.fn.faults (checked_alternatives (guarded_list l.others) (around_of l.within) l.within.scope.now (plain_tables l.fn.tables))
 
-abbrev pub invariant-declarations-loop-next : goal.invariant-declarations-loop-next
-invariant-declarations-loop-next l = DeclaresAhead l.faults l.part (checked_declarations (plain_declarations (drop l.next-index l.declarations)) (plain_place l.part.region l.outer) (plain_tables l.tables)) l.fn.faults l.fn.part (checked_declarations (plain_declarations l.fn.declarations) (plain_place l.fn.part.region l.fn.outer) (plain_tables l.fn.tables))
+abbrev pub invariant-declared-loop-next : goal.invariant-declared-loop-next
+invariant-declared-loop-next l = DeclaresAhead l.faults l.part (checked_declarations (plain_declarations (drop l.next-index l.source)) (plain_place l.part.region l.outer) (plain_tables l.tables)) l.initial.faults l.initial.part (checked_declarations (plain_declarations l.source) (plain_place l.initial.part.region l.outer) (plain_tables l.initial.tables))
 
-abbrev pub invariant-operation_bodies-loop-next : goal.invariant-operation_bodies-loop-next
-invariant-operation_bodies-loop-next l =
-    BodiesAhead l.faults (checked_bodies (operation_body_list (drop l.next-index l.bodies)) (both_places l.declared_parts l.inside l.in_function) l.awaited.items (plain_tables l.tables))
-    l.fn.faults (checked_bodies (operation_body_list l.bodies) (both_places l.fn.declared_parts l.fn.inside l.fn.in_function) l.fn.awaited.items (plain_tables l.fn.tables))
+abbrev pub invariant-bodies_within-loop-next : goal.invariant-bodies_within-loop-next
+invariant-bodies_within-loop-next l =
+    BodiesAhead l.faults (checked_bodies (operation_body_list (drop l.next-index (out-ProtectedBody l.node).bodies.items)) (both_places l.declared_parts l.inside l.in_function) l.awaited.items (plain_tables l.tables))
+    l.fn.faults (checked_bodies (operation_body_list (out-ProtectedBody l.fn.node).bodies.items) (both_places l.fn.declared_parts l.fn.inside l.fn.in_function) l.fn.awaited.items (plain_tables l.fn.tables))

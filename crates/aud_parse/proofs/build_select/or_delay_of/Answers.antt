@@ -1,4 +1,5 @@
 use Rattle.std.proofs.Common.{ap, ◌∙◌}
+use Rattle.std.proofs.lemmas.Result.{IfOk-weaker}
 use Rattle.aud_syntax.specs.declared.tree.Delay.{Delay}
 use Rattle.aud_syntax.specs.Plain as m
 use Rattle.aud_syntax.specs.Ties.View.{plain_others, plain_delay, plain_other}
@@ -7,7 +8,8 @@ use Rattle.aud_parse.proofs.build_select.or_delay_of.Goals as goal
 
 pub returns : goal.returns
 returns c =
-    ap plain_other c.in_ok-boxed.ensures.ok
+    IfOk-weaker c.boxed.result _ _ (λ b h.
+    ap plain_other h
     ∙ or_delay_open c.into_inner-delay.result c.in_ok-behind.behind
     ∙ ap (λ (z : Delay). m.or_delay (plain_delay z) (plain_others c.in_ok-behind.behind.items)) c.into_inner-delay.ensures
-    ∙ ap (λ l. m.or_delay (plain_delay c.args.delay.value) (plain_others l)) c.in_ok-behind.ensures
+    ∙ ap (λ l. m.or_delay (plain_delay c.args.delay.value) (plain_others l)) c.in_ok-behind.ensures) c.boxed.ensures

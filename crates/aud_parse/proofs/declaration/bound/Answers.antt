@@ -12,6 +12,6 @@ returns-in_err-t c = exit_flat _ _ _ c.from_residual.ensures.1 (λ room. c.in_er
 
 pub returns : goal.returns
 returns c = record {
-  reads = λ room k ds v o. to (o_rule ((c.mark-negative.ensures g.Negated negated).reads _ _ _ _ (o_rule (c.in_ok-t.ensures.reads _ _ _ _ o)))) (bound_items c.in_ok-boxed.boxed _ (token c.in_ok-t.t.now) _ ds c.in_ok-boxed.ensures.ok (rw (c.number_value-value.ensures, c.text.ensures, c.at.ensures) refl));
+  reads = λ room k ds v o. to (o_rule ((c.mark-negative.ensures g.Negated negated).reads _ _ _ _ (o_rule (c.in_ok-t.ensures.reads _ _ _ _ o)))) (bound_items c.in_ok-boxed.boxed _ (token c.in_ok-t.t.now) _ ds c.in_ok-boxed.ensures (rw (c.number_value-value.ensures, c.text.ensures, c.at.ensures) refl));
   shorter = omega (arith, (c.mark-negative.ensures g.Negated negated).shorter, c.in_ok-t.ensures.shorter);
 }

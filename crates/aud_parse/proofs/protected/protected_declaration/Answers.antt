@@ -12,7 +12,7 @@ returns c = record {
   reads = λ k ds v o. (
     _,
     c.in_ok-name.ensures.reads _ _ _ o,
-    declared_object_items c.in_ok-boxed.boxed (token c.args.begin.now) c.at.result c.in_ok-name.name c.in_ok-name.operations c.in_ok-name.private_items c.in_ok-name.end_name ds c.in_ok-boxed.ensures.ok c.at.ensures,
+    declared_object_items c.in_ok-boxed.boxed (token c.args.begin.now) c.at.result c.in_ok-name.name c.in_ok-name.operations c.in_ok-name.private_items c.in_ok-name.end_name ds c.in_ok-boxed.ensures c.at.ensures,
   );
   shorter = omega (arith, c.in_ok-name.ensures.shorter);
 }

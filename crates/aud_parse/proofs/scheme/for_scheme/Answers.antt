@@ -24,6 +24,6 @@ returns-in_err-low c = exit_all (N g.Simple ∷ T kind.DoubleDot ∷ N g.Simple 
 
 pub returns : goal.returns
 returns c = record {
-  reads = λ k ds v o. rw c.at.ensures (to (o_rule (c.in_ok-t.ensures.reads _ _ _ _ (c.in_ok-name.ensures.reads _ _ _ _ (c.in_ok-rest.ensures.reads _ _ _ _ ((c.mark-reverse.ensures g.Reverse reversed).reads _ _ _ _ (c.in_ok-low.ensures.reads _ _ _ o)))))) (for_items c.in_ok-boxed.boxed (token c.in_ok-t.t.now) c.in_ok-name.name _ c.in_ok-low.low c.in_ok-low.high _ _ ds c.in_ok-boxed.ensures.ok c.into_inner.ensures c.into_inner-2.ensures));
+  reads = λ k ds v o. rw c.at.ensures (to (o_rule (c.in_ok-t.ensures.reads _ _ _ _ (c.in_ok-name.ensures.reads _ _ _ _ (c.in_ok-rest.ensures.reads _ _ _ _ ((c.mark-reverse.ensures g.Reverse reversed).reads _ _ _ _ (c.in_ok-low.ensures.reads _ _ _ o)))))) (for_items c.in_ok-boxed.boxed (token c.in_ok-t.t.now) c.in_ok-name.name _ c.in_ok-low.low c.in_ok-low.high _ _ ds c.in_ok-boxed.ensures c.into_inner.ensures c.into_inner-2.ensures));
   shorter = omega (arith, c.in_ok-t.ensures.shorter, c.in_ok-name.ensures.shorter, c.in_ok-rest.ensures.shorter, (c.mark-reverse.ensures g.Reverse reversed).shorter, c.in_ok-low.ensures.shorter);
 }

@@ -12,4 +12,4 @@ pub returns-in_err-condition : goal.returns-in_err-condition
 returns-in_err-condition c = exit _ _ _ c.from_residual-in_err-condition.ensures.1 c.in_err-condition.ensures.reads (λ k ds v o. o_rule (c.in_ok-t.ensures.reads _ _ _ _ o))
 
 pub returns : goal.returns
-returns c = record { reads = λ k ds v o. rw c.at.ensures (to (o_rule (c.in_ok-t.ensures.reads _ _ _ _ (c.in_ok-condition.ensures.reads _ _ _ o))) (while_items c.in_ok-boxed.boxed (token c.in_ok-t.t.now) c.in_ok-condition.condition _ ds c.in_ok-boxed.ensures.ok c.into_inner.ensures)); shorter = omega (arith, c.in_ok-t.ensures.shorter, c.in_ok-condition.ensures.shorter) }
+returns c = record { reads = λ k ds v o. rw c.at.ensures (to (o_rule (c.in_ok-t.ensures.reads _ _ _ _ (c.in_ok-condition.ensures.reads _ _ _ o))) (while_items c.in_ok-boxed.boxed (token c.in_ok-t.t.now) c.in_ok-condition.condition _ ds c.in_ok-boxed.ensures c.into_inner.ensures)); shorter = omega (arith, c.in_ok-t.ensures.shorter, c.in_ok-condition.ensures.shorter) }

@@ -1,15 +1,15 @@
-use Rattle.std.proofs.Common.{◌+◌, ◌*◌, ◌≤◌, length}
+use Rattle.std.proofs.Common.{◌≡◌, ◌+◌, ◌*◌, ◌≤◌, List, ◌∷◌, length}
+use Rattle.aud_lex.specs.Element.{Element}
 use Rattle.aud_grammar.specs.Grammar as g
+use Rattle.aud_grammar.specs.Grammar.{Opt, Down}
 use Rattle.aud_parse.specs.Ties.Items.{arm_item, handler_item, statement_item, declaration_item, operation_body_item}
 use Rattle.aud_cursor.proofs.Passing.{Turns, Heads}
 use Rattle.aud_parse.proofs.Alternating.{Chain}
+use Rattle.aud_parse.proofs.Listed.{Heading_on}
 use Rattle.aud_parse.proofs.statement.+statement.Given as goal
 
 abbrev pub decreases-statements : goal.decreases-statements
 decreases-statements l = 32 * l.room + 0
-
-abbrev pub decreases-declarations : goal.decreases-declarations
-decreases-declarations l = 32 * l.room + 0
 
 abbrev pub decreases-opt_declarations : goal.decreases-opt_declarations
 decreases-opt_declarations l = 32 * l.room + 1
@@ -28,12 +28,6 @@ decreases-loop_statement l = 32 * l.room + 1
 
 abbrev pub decreases-handler : goal.decreases-handler
 decreases-handler l = 32 * l.room + 1
-
-abbrev pub decreases-handler_list : goal.decreases-handler_list
-decreases-handler_list l = 32 * l.room + 2
-
-abbrev pub decreases-elsif : goal.decreases-elsif
-decreases-elsif l = 32 * l.room + 2
 
 abbrev pub decreases-opt_handlers : goal.decreases-opt_handlers
 decreases-opt_handlers l = 32 * l.room + 3
@@ -56,9 +50,6 @@ decreases-block l = 32 * l.room + 6
 abbrev pub decreases-procedure : goal.decreases-procedure
 decreases-procedure l = 32 * l.room + 6
 
-abbrev pub decreases-task_body : goal.decreases-task_body
-decreases-task_body l = 32 * l.room + 6
-
 abbrev pub decreases-task : goal.decreases-task
 decreases-task l = 32 * l.room + 7
 
@@ -68,20 +59,11 @@ decreases-operation_body l = 32 * l.room + 6
 abbrev pub decreases-operation_bodies : goal.decreases-operation_bodies
 decreases-operation_bodies l = 32 * l.room + 7
 
-abbrev pub decreases-protected_body : goal.decreases-protected_body
-decreases-protected_body l = 32 * l.room + 8
-
 abbrev pub decreases-protected : goal.decreases-protected
 decreases-protected l = 32 * l.room + 9
 
 abbrev pub decreases-declaration : goal.decreases-declaration
 decreases-declaration l = 32 * l.room + 10
-
-abbrev pub decreases-declaration_list : goal.decreases-declaration_list
-decreases-declaration_list l = 32 * l.room + 11
-
-abbrev pub decreases-labelled : goal.decreases-labelled
-decreases-labelled l = 32 * l.room + 7
 
 abbrev pub decreases-name_statement : goal.decreases-name_statement
 decreases-name_statement l = 32 * l.room + 8
@@ -91,9 +73,6 @@ decreases-statement l = 32 * l.room + 14
 
 abbrev pub decreases-more_statements : goal.decreases-more_statements
 decreases-more_statements l = 32 * l.room + 15
-
-abbrev pub decreases-statement_list : goal.decreases-statement_list
-decreases-statement_list l = 32 * l.room + 16
 
 abbrev pub invariant-elsifs-turns : goal.invariant-elsifs-turns
 invariant-elsifs-turns l = record { turns : Turns arm_item g.Elsif l.room l.start.tokens.now l.all.items l.rest.tokens.now; shorter : length l.rest.tokens.now ≤ length l.start.tokens.now }
@@ -107,23 +86,11 @@ invariant-more_statements-turns l = record { turns : Turns statement_item g.Stat
 abbrev pub decreases-more_statements-turns : goal.decreases-more_statements-turns
 decreases-more_statements-turns l = length l.rest.tokens.now
 
-abbrev pub invariant-handler_list-turns : goal.invariant-handler_list-turns
-invariant-handler_list-turns l = record { turns : Heads handler_item g.Handler g.Handler l.room l.start.tokens.now l.all.items l.rest.tokens.now; shorter : length l.rest.tokens.now ≤ length l.start.tokens.now }
-
-abbrev pub decreases-handler_list-turns : goal.decreases-handler_list-turns
-decreases-handler_list-turns l = length l.rest.tokens.now
-
 abbrev pub invariant-operation_bodies-turns : goal.invariant-operation_bodies-turns
 invariant-operation_bodies-turns l = record { turns : Turns operation_body_item g.OperationBody l.room l.start.tokens.now l.all.items l.rest.tokens.now; shorter : length l.rest.tokens.now ≤ length l.start.tokens.now }
 
 abbrev pub decreases-operation_bodies-turns : goal.decreases-operation_bodies-turns
 decreases-operation_bodies-turns l = length l.rest.tokens.now
-
-abbrev pub invariant-declaration_list-turns : goal.invariant-declaration_list-turns
-invariant-declaration_list-turns l = record { turns : Heads declaration_item g.Declaration g.Declaration l.room l.start.tokens.now l.all.items l.rest.tokens.now; shorter : length l.rest.tokens.now ≤ length l.start.tokens.now }
-
-abbrev pub decreases-declaration_list-turns : goal.decreases-declaration_list-turns
-decreases-declaration_list-turns l = length l.rest.tokens.now
 
 abbrev pub invariant-more_alternatives-turns : goal.invariant-more_alternatives-turns
 invariant-more_alternatives-turns l = record { turns : Chain l.fn.seen l.room l.start.tokens.now l.all.items l.so_far l.rest.tokens.now; shorter : length l.rest.tokens.now ≤ length l.start.tokens.now }
@@ -142,9 +109,6 @@ decreases-after_accepts l = 32 * l.room + 2
 
 abbrev pub decreases-after_last : goal.decreases-after_last
 decreases-after_last l = 32 * l.room + 3
-
-abbrev pub decreases-do_body : goal.decreases-do_body
-decreases-do_body l = 32 * l.room + 5
 
 abbrev pub decreases-opt_do : goal.decreases-opt_do
 decreases-opt_do l = 32 * l.room + 6
@@ -173,9 +137,6 @@ decreases-select_accept l = 32 * l.room + 11
 abbrev pub decreases-or_delay : goal.decreases-or_delay
 decreases-or_delay l = 32 * l.room + 2
 
-abbrev pub decreases-or_else : goal.decreases-or_else
-decreases-or_else l = 32 * l.room + 2
-
 abbrev pub decreases-otherwise : goal.decreases-otherwise
 decreases-otherwise l = 32 * l.room + 3
 
@@ -187,3 +148,25 @@ decreases-select_rest l = 32 * l.room + 12
 
 abbrev pub decreases-select : goal.decreases-select
 decreases-select l = 32 * l.room + 13
+
+abbrev pub invariant-opt_handlers-turns : goal.invariant-opt_handlers-turns
+invariant-opt_handlers-turns l = record {
+  inside : List Element;
+  opened : Heading_on (Opt g.Handlers) g.Handler l.room l.start.tokens.now (λ k. k) l.room inside;
+  turns : Heads handler_item g.Handler g.Handler l.room inside l.all.items l.rest.tokens.now;
+  shorter : length l.rest.tokens.now ≤ length l.start.tokens.now;
+}
+
+abbrev pub decreases-opt_handlers-turns : goal.decreases-opt_handlers-turns
+decreases-opt_handlers-turns l = length l.rest.tokens.now
+
+abbrev pub invariant-opt_declarations-turns : goal.invariant-opt_declarations-turns
+invariant-opt_declarations-turns l = record {
+  deeper : l.room ≡ l.inside + 1;
+  opened : Heading_on (Opt g.Declarations) g.Declaration l.room l.start.tokens.now (λ k. Down ∷ k) l.inside l.start.tokens.now;
+  turns : Heads declaration_item g.Declaration g.Declaration l.inside l.start.tokens.now l.all.items l.rest.tokens.now;
+  shorter : length l.rest.tokens.now ≤ length l.start.tokens.now;
+}
+
+abbrev pub decreases-opt_declarations-turns : goal.decreases-opt_declarations-turns
+decreases-opt_declarations-turns l = length l.rest.tokens.now

@@ -21,4 +21,4 @@ returns-in_err-condition c = exit _ _ _ c.from_residual-in_err-condition.ensures
 pub returns : goal.returns
 returns c =
     ends c.args.start c.in_ok-condition.rest _ _ c.ended.ensures (omega (arith, c.in_ok-t.ensures.shorter, c.in_ok-label.ensures.shorter, (c.in_ok-condition.ensures g.When when).shorter)) (λ k ds v o. o_rule (c.in_ok-t.ensures.reads _ _ _ _ (c.in_ok-label.ensures.reads _ _ _ _ ((c.in_ok-condition.ensures g.When when).reads _ _ _ o))))
-    (λ ds. boxed_exit_items c.in_ok-statement.statement (token c.in_ok-t.t.now) c.in_ok-label.label c.in_ok-condition.condition ds (c.in_ok-statement.ensures.ok ∙ ap (λ z. statement.Exit z c.in_ok-label.label c.in_ok-condition.condition) c.at.ensures))
+    (λ ds. boxed_exit_items c.in_ok-statement.statement (token c.in_ok-t.t.now) c.in_ok-label.label c.in_ok-condition.condition ds (c.in_ok-statement.ensures ∙ ap (λ z. statement.Exit z c.in_ok-label.label c.in_ok-condition.condition) c.at.ensures))

@@ -16,4 +16,4 @@ returns-in_err-value c = exit _ _ _ c.from_residual-in_err-value.ensures.1 c.in_
 pub returns : goal.returns
 returns c =
     ends c.args.start c.in_ok-value.rest _ _ c.ended.ensures (search rules) (λ k ds v o. o_rule (c.in_ok-t.ensures.reads _ _ _ _ (c.in_ok-value.ensures.reads _ _ _ o)))
-    (λ ds. return_items c.in_ok-statement.statement (token c.in_ok-t.t.now) c.in_ok-value.value ds (c.in_ok-statement.ensures.ok ∙ ap (λ z. statement.Return z c.in_ok-value.value) c.at.ensures))
+    (λ ds. return_items c.in_ok-statement.statement (token c.in_ok-t.t.now) c.in_ok-value.value ds (c.in_ok-statement.ensures ∙ ap (λ z. statement.Return z c.in_ok-value.value) c.at.ensures))

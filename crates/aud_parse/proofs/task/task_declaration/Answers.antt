@@ -12,7 +12,7 @@ returns c = record {
   reads = λ k ds v o. (
     _,
     c.in_ok-is_type.ensures.reads _ _ _ o,
-    declared_task_items c.in_ok-boxed.boxed (token c.args.begin.now) c.at.result c.in_ok-is_type.is_type c.in_ok-is_type.name c.in_ok-is_type.definition ds c.in_ok-boxed.ensures.ok c.at.ensures,
+    declared_task_items c.in_ok-boxed.boxed (token c.args.begin.now) c.at.result c.in_ok-is_type.is_type c.in_ok-is_type.name c.in_ok-is_type.definition ds c.in_ok-boxed.ensures c.at.ensures,
   );
   shorter = omega (arith, c.in_ok-is_type.ensures.shorter);
 }

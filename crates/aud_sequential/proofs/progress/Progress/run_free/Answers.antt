@@ -1,4 +1,5 @@
 use Rattle.std.proofs.Common.{◌≡◌, ◌+◌, reverse, ap, ◌∙◌, refl, subst, arith}
+use Rattle.aud_meaning.specs.Effects.{innermost}
 use Rattle.aud_meaning.specs.Ties.Part.{Part}
 use Rattle.aud_code.specs.Places.{Spot, goes}
 use Rattle.aud_store.specs.Ties.Stored.{Stored}
@@ -12,11 +13,12 @@ before c =
     let inside = c.self.inside in
     record { control = record { place = inside.place; returns = reverse inside.returns.items }; pending = inside.pending; stack = inside.store.stack; frames = inside.store.frames; output = inside.output.items; cut = inside.cut; choices = inside.choices.items; clock = inside.clock; steps = inside.steps }
 
-free : (c : After-fast_run-run) → Free c.self.inside.place c.self.inside.store.stack.display c.self.inside.store.frames (before c)
+free : (c : After-fast_run-run) → Free c.self.inside.place (innermost c.self.inside.store.stack.opened) c.self.inside.store.stack.display c.self.inside.store.frames (before c)
 free c = record {
   none = rw (← c.self.view_is) at c.requires.none;
   uncut = rw (← c.self.view_is) at c.requires.uncut;
   control = refl;
+  innermost = refl;
   sees = refl;
   has = refl;
 }
@@ -38,5 +40,5 @@ returns c =
     let there = (goal.at.returns c).After-fast_run-run in
     let inside = c.self.inside in
     let run = c.fast_run-run.result in
-    let fast = runs_fast c.args.code.now c.args.n inside.place inside.store.stack.display inside.store.frames c.fast_run-run.new.store.frames (before there) (after there) run (free there) c.fast_run-run.ensures.done c.fast_run-run.ensures.few (led_there there) in
+    let fast = runs_fast c.args.code.now c.args.n inside.place (innermost inside.store.stack.opened) inside.store.stack.display inside.store.frames c.fast_run-run.new.store.frames (before there) (after there) run (free there) c.fast_run-run.ensures.done c.fast_run-run.ensures.few (led_there there) in
     record { runs = subst (λ p. RunsFast c.args.code.now c.args.n p (after there) run) c.self.view_is fast }
