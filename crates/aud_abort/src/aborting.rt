@@ -21,8 +21,8 @@ use aud_text::raise::Raise;
 use aud_typed::program::Exception;
 use std::alloc::{AllocError, Global};
 
-/// The step abort of a task: these tasks, and those that depend on them, become abnormal; within a protected action Program_Error is
-/// raised (RM 9.5.1(8 to 16)).
+/// The step abort of a task: these tasks, and those that depend on them, become abnormal; within a protected action
+/// Program_Error is raised (RM 9.5.1(8 to 16)).
 ///
 /// # Errors
 ///
@@ -64,8 +64,8 @@ fn bodies(state: &State, alloc: Global, named: &[usize]) -> Result<Vec<usize>, A
     Ok(frames)
 }
 
-// Tasks become abnormal: their queued calls are cancelled, calls queued on their entries get Tasking_Error, and those that are not yet
-// activated are terminated.
+// Tasks become abnormal: their queued calls are cancelled, calls queued on their entries get Tasking_Error, and those
+// that are not yet activated are terminated.
 fn abort_all(
     state: &mut State,
     alloc: Global,

@@ -196,7 +196,8 @@ fn by_access(inside: bool, instance: Instance, at: Pos, calling: Calling) -> Typ
     }
 }
 
-/// A call of an operation of an object, whose value goes there, if what is passed has no fault; another is left as a null statement.
+/// A call of an operation of an object, whose value goes there, if what is passed has no fault; another is left as a
+/// null statement.
 pub fn operation_called(
     operation: Operation,
     into: Option<Reference>,

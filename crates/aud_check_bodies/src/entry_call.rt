@@ -126,7 +126,8 @@ fn check_owner(owner: Owner, at: Pos, faults: &mut Least)
     }
 }
 
-/// Checks what a call of an entry calls, whose name stands at a place: notes its faults, and answers what is left of it, if it has none.
+/// Checks what a call of an entry calls, whose name stands at a place: notes its faults, and answers what is left of
+/// it, if it has none.
 #[tactic(auto, using(aud_typing::proofs::Notes::noted_append))]
 pub fn entry_called(
     entry: Entry,
@@ -148,8 +149,8 @@ pub fn entry_called(
     Ok(called_with(entry.number, whose, passed))
 }
 
-// A call of an entry with these arguments at a place; neither what follows it nor what is done in place of it is left where the entry is
-// one of the object in whose body it stands.
+// A call of an entry with these arguments at a place; neither what follows it nor what is done in place of it is left
+// where the entry is one of the object in whose body it stands.
 fn entry_call_to(
     alloc: Global,
     at: Pos,
@@ -187,7 +188,8 @@ fn entry_call_to(
     boxed(alloc, Statement::EntryCall(statement))
 }
 
-/// A call of an entry at a place, with what follows it, and what is done in place of it; a faulty one is left as a null statement.
+/// A call of an entry at a place, with what follows it, and what is done in place of it; a faulty one is left as a null
+/// statement.
 #[inline(never)]
 pub fn entry_call_of(
     alloc: Global,

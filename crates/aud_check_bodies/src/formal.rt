@@ -128,7 +128,8 @@ fn formal(
     add(&formal.names, parameter, region.alloc, profile)
 }
 
-/// The subtype of the value of a function of this name, whose formals are declared in a region that lies within these: notes its faults.
+/// The subtype of the value of a function of this name, whose formals are declared in a region that lies within these:
+/// notes its faults.
 pub fn result_mark<'x>(
     own: &'x Ident,
     mark: &Ident,

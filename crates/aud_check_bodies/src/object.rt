@@ -592,7 +592,8 @@ fn declare_all(
     Ok(())
 }
 
-// What an object of this number declares, whose declaration stands in a region that lies within these, and what is found behind its name.
+// What an object of this number declares, whose declaration stands in a region that lies within these, and what is
+// found behind its name.
 #[tactic(auto, using(aud_typing::proofs::Notes::noted_append))]
 fn parts_of(
     number: usize,
@@ -714,7 +715,8 @@ pub fn without_part_bodies(awaited: &[AwaitedPart], faults: &mut Least)
     }
 }
 
-/// The number of the object whose body has this name. A body of no object that waits for one is checked as that of an object of its own.
+/// The number of the object whose body has this name. A body of no object that waits for one is checked as that of an
+/// object of its own.
 #[inline(never)]
 pub fn body_number(
     ident: &Ident,

@@ -739,7 +739,8 @@ fn operation_part<'a>(
     declared(&node.declarations, region, outer, tables, faults)
 }
 
-// The body of an operation or entry (RM 9.4(8), 9.5.2), in the region of its object: adds it to the tables, where its place was kept.
+// The body of an operation or entry (RM 9.4(8), 9.5.2), in the region of its object: adds it to the tables, where its
+// place was kept.
 #[cycle(statement)]
 #[inline(never)]
 fn operation_body<'a>(

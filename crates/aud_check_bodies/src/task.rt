@@ -300,7 +300,8 @@ pub fn body_numbers(
     }
 }
 
-/// The region around the body of a task of this name and type that is declared in this region: the task that runs it has the name.
+/// The region around the body of a task of this name and type that is declared in this region: the task that runs it
+/// has the name.
 #[inline(never)]
 pub fn running_within(name: &Name, task_type: usize, region: &Region) -> Made<Region>
     ensures region { IfOk result (λ around. plain_region around

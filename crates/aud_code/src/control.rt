@@ -23,8 +23,8 @@ pub fn taken(code: &SoundCode, place: usize, part: usize) -> usize
     }
 }
 
-/// Where what a task does begins that accepts a call, by the alternative of this number of the step that begins at a place; the same
-/// place where there is none.
+/// Where what a task does begins that accepts a call, by the alternative of this number of the step that begins at a
+/// place; the same place where there is none.
 pub fn accepted(code: &SoundCode, place: usize, alternative: usize) -> usize
     ensures { (returns : List ℕ) → (let s : Spot = record { place = place; returns = returns } in
         record s { place = result } ≡ (going code.now).accepts alternative s) }

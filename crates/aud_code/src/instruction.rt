@@ -84,7 +84,8 @@ pub enum Instruction {
     OpensTerminate,
     /// What stands before it decides whether the step can be done.
     Mark,
-    /// Unless the next open delay without a time is that of the alternative of the first number, this many instructions are passed.
+    /// Unless the next open delay without a time is that of the alternative of the first number, this many instructions
+    /// are passed.
     PassUnlessNext(usize, usize),
     /// The delay of the alternative of this number ends behind the time that is waited for.
     SetTime(usize),

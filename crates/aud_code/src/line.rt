@@ -118,15 +118,15 @@ pub enum Among {
     },
     /// The task is blocked for the time that is waited for (RM 9.6).
     Delay,
-    /// A call of this entry is accepted, with the table of its formals where something is done, which begins at the place `body`; else
-    /// the step leads there (RM 9.5.2).
+    /// A call of this entry is accepted, with the table of its formals where something is done, which begins at the
+    /// place `body`; else the step leads there (RM 9.5.2).
     Accept {
         entry: usize,
         region: Option<usize>,
         body: usize,
     },
-    /// An open alternative is done, or the else part, if there is one, with which the place of the next step begins (RM 9.7.1). The
-    /// step itself begins at the place `own`.
+    /// An open alternative is done, or the else part, if there is one, with which the place of the next step begins (RM
+    /// 9.7.1). The step itself begins at the place `own`.
     Select {
         has_else: bool,
         own: usize,

@@ -16,8 +16,8 @@ use crate::instruction::Instruction;
 use crate::line::{Among, Barrier, Code, EndLine, Ending, Guard, Last, Line, Offer};
 use aud_meaning::state::Construct;
 
-/// Whether each line names variables of frames that are open alone, by the table of frames, and leads to where those are open that
-/// are written there.
+/// Whether each line names variables of frames that are open alone, by the table of frames, and leads to where those
+/// are open that are written there.
 pub(crate) fn is_seen(code: &Code) -> bool
     ensures { IsTrue result ↔ IsSeen (plain_code code.now) (map counts code.now.operands.items)
         code.now.tasks.items (frames_in code.now.barriers.items) code.now.seen.items }
@@ -84,7 +84,8 @@ fn place_sees(code: &Code, place: usize) -> bool
 fn line_sees(code: &Code, line: &Line, place: usize, frames: usize) -> bool
     requires { place < length code.now.lines.items }
     ensures { IsTrue result ↔ LineSees (plain_code code.now) (map counts code.now.operands.items)
-        code.now.tasks.items (frames_in code.now.barriers.items) code.now.seen.items (Some (plain_line line.now)) place frames }
+        code.now.tasks.items (frames_in code.now.barriers.items) code.now.seen.items
+        (Some (plain_line line.now)) place frames }
 {
     match line {
         Line::Instruction(instruction) => {
@@ -133,7 +134,8 @@ fn is_open(frame: usize, frames: usize, begun: bool) -> bool
 }
 
 fn last_sees(code: &Code, end: &EndLine, frames: usize) -> bool
-    ensures { IsTrue result ↔ LastSees (plain_code code.now) code.now.tasks.items (frames_in code.now.barriers.items) code.now.seen.items
+    ensures { IsTrue result ↔ LastSees (plain_code code.now)
+        code.now.tasks.items (frames_in code.now.barriers.items) code.now.seen.items
         (plain_last end.now.last) frames (plain_end end.now) }
 {
     let seen = &code.seen;
@@ -164,7 +166,8 @@ fn last_sees(code: &Code, end: &EndLine, frames: usize) -> bool
 
 // Where a statement's step leads besides, and the body that it enters.
 fn ending_sees(code: &Code, ending: Ending, frames: usize) -> bool
-    ensures { IsTrue result ↔ (EndingSees (plain_code code.now) code.now.tasks.items (frames_in code.now.barriers.items) code.now.seen.items
+    ensures { IsTrue result ↔ (EndingSees (plain_code code.now)
+        code.now.tasks.items (frames_in code.now.barriers.items) code.now.seen.items
         (plain_ending ending) frames
         × (EachSame code.now.seen.items (inside (plain_ending ending) frames) (inside_of ending)
         × WaySees code.now.seen.items frames (way_of ending))) }
@@ -193,7 +196,8 @@ fn ending_sees(code: &Code, ending: Ending, frames: usize) -> bool
 
 // Where a step leads besides that concerns others, the bodies that it enters, and what its accepts do.
 fn among_sees(code: &Code, among: &Among, frames: usize) -> bool
-    ensures { IsTrue result ↔ (EndingSees (plain_code code.now) code.now.tasks.items (frames_in code.now.barriers.items) code.now.seen.items
+    ensures { IsTrue result ↔ (EndingSees (plain_code code.now)
+        code.now.tasks.items (frames_in code.now.barriers.items) code.now.seen.items
         (plain_among among.now) frames
         × (EachSame code.now.seen.items (inside (plain_among among.now) frames) (beside among.now)
         × BodiesSee code.now.seen.items frames (bodies_in among.now))) }
@@ -270,7 +274,8 @@ fn doing_sees(seen: &[usize], frames: usize, body: usize) -> bool
 // Behind the end of a construct, whose frame is left.
 fn behind_sees(code: &Code, end: &EndLine, frames: usize, next: usize) -> bool
     ensures { IsTrue result ↔
-        BehindSees (plain_code code.now) code.now.tasks.items (frames_in code.now.barriers.items) code.now.seen.items
+        BehindSees (plain_code code.now)
+        code.now.tasks.items (frames_in code.now.barriers.items) code.now.seen.items
         frames (plain_end end.now) next }
 {
     match opener(&code.lines, end.within) {

@@ -22,9 +22,10 @@ use std::sync::Wait;
 /// Why a connection ends before its QUIT and before the end of what is read.
 pub use aud_solo::solo::SoloFault as ServeFault;
 
-/// Serves a connection at a desk, turn by turn: what is told for a request is written before the next one is looked at, and before
-/// more is read. Before a SEAT takes a seat every other request is refused; from then on the answers are those of a private
-/// server. Behind a QUIT of a connection with a seat, at the end of what is read and at a fault the seat is freed.
+/// Serves a connection at a desk, turn by turn: what is told for a request is written before the next one is looked at,
+/// and before more is read. Before a SEAT takes a seat every other request is refused; from then on the answers are
+/// those of a private server. Behind a QUIT of a connection with a seat, at the end of what is read and at a fault the
+/// seat is freed.
 ///
 /// # Errors
 ///

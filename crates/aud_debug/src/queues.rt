@@ -98,7 +98,8 @@ fn entries_of<'a>(compiled: Compiled<'a>, task_type: Option<usize>) -> &'a [usiz
 
 // The entries of a declaration of a protected object.
 fn protected_entries_of<'a>(compiled: Compiled<'a>, declaration: usize) -> &'a [usize]
-    ensures { result.now ≡ (object_plan (plain_program compiled.entry.program.now).plan declaration).entries }
+    ensures { result.now
+        ≡ (object_plan (plain_program compiled.entry.program.now).plan declaration).entries }
 {
     match compiled.program.objects.get(declaration) {
         Some(object) => &object.entries,
@@ -188,7 +189,8 @@ fn push_owner(
 }
 
 fn object_name<'a>(compiled: Compiled<'a>, declaration: usize) -> &'a [u8]
-    ensures { result.now ≡ (object_plan (plain_program compiled.entry.program.now).plan declaration).name }
+    ensures { result.now
+        ≡ (object_plan (plain_program compiled.entry.program.now).plan declaration).name }
 {
     match compiled.program.objects.get(declaration) {
         Some(object) => object.name.as_bytes(),

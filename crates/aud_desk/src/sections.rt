@@ -109,8 +109,8 @@ pub fn open_in(alloc: Global, hall: &mut Hall, seat: usize) -> Result<Pass, Desk
 ///
 /// # Errors
 ///
-/// The first that holds of: there is no such seat; it is not claimed; what the pass has sent is not what is stored there. The hall
-/// is as it was.
+/// The first that holds of: there is no such seat; it is not claimed; what the pass has sent is not what is stored
+/// there. The hall is as it was.
 pub fn close_in(hall: &mut Hall, pass: &Pass) -> Result<(), DeskFault>
     ensures { Closes pass.now hall.old result hall.new }
 {

@@ -205,8 +205,8 @@ pub fn evaluate<F: Facts>(
     }
 }
 
-/// From the first place of a step to its mark. Whether the mark is reached: not where an exception is raised before, or where there is
-/// none.
+/// From the first place of a step to its mark. Whether the mark is reached: not where an exception is raised before, or
+/// where there is none.
 pub fn evaluate_to_mark<F: Facts>(
     code: &SoundCode,
     first: usize,

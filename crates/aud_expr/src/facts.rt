@@ -51,8 +51,8 @@ pub fn is_terminated<F: Facts>(facts: &F, operands: &mut Operands) -> Result<(),
     operands.push_truth(facts.is_terminated(task))
 }
 
-/// How many calls are queued on this entry of the task or object whose number the variable's cell holds. Memory holds no more of them
-/// than an Integer is large.
+/// How many calls are queued on this entry of the task or object whose number the variable's cell holds. Memory holds
+/// no more of them than an Integer is large.
 #[tactic(auto, using(crate::proofs::OwnCells::facts_same))]
 pub fn count<F: Facts>(
     variable: Variable,

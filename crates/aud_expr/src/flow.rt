@@ -2,7 +2,8 @@
 
 use aud_text::raise::Raise;
 
-/// Where an instruction leads: on, past this number of others, to an exception, or no further, where the evaluation is one up to the mark.
+/// Where an instruction leads: on, past this number of others, to an exception, or no further, where the evaluation is
+/// one up to the mark.
 #[derive(Clone, Copy, PartialEq, Eq)]
 pub enum Flow {
     Passes(usize),

@@ -1,5 +1,5 @@
-// What the instructions of a step work on: Integers, truth values, targets, arguments, tasks that are named, a text that grows, the
-// cells of an object that is declared, and what is waited for.
+// What the instructions of a step work on: Integers, truth values, targets, arguments, tasks that are named, a text
+// that grows, the cells of an object that is declared, and what is waited for.
 
 ghost use Rattle.std.specs.Prelude.{◌≡◌, ◌<◌, ◌≤◌, ◌+◌, [], ◌∷◌, ◌++◌, Some, true, reverse, length, OnOk};
 ghost use Rattle.aud_text.specs.Integer.{image};

@@ -31,8 +31,8 @@ use aud_typed::program::{
 use std::alloc::{AllocError, Global};
 
 impl Writer {
-    /// The step of an entry call. Behind it stand the statements that follow the call, and those where the call is left; then comes the
-    /// step `next`.
+    /// The step of an entry call. Behind it stand the statements that follow the call, and those where the call is
+    /// left; then comes the step `next`.
     pub fn write_call_step(
         &mut self,
         call: &EntryCallStatement,
@@ -95,8 +95,8 @@ impl Writer {
         self.concern(among, next, accept.at, out, within)
     }
 
-    /// The step of a selective accept. Behind it stands what lies in its alternatives, then the statements behind its `else`; at last
-    /// comes the step `next`.
+    /// The step of a selective accept. Behind it stands what lies in its alternatives, then the statements behind its
+    /// `else`; at last comes the step `next`.
     pub fn write_choice_step(
         &mut self,
         select: &SelectStatement,
@@ -117,8 +117,8 @@ impl Writer {
         self.write_choice(select, own, otherwise, offers, out, ways.within)
     }
 
-    // That step, which begins at the place `own`, and leads to the place `otherwise` where no alternative is open, or else by one of
-    // these.
+    // That step, which begins at the place `own`, and leads to the place `otherwise` where no alternative is open, or
+    // else by one of these.
     fn write_choice(
         &mut self,
         select: &SelectStatement,
@@ -276,8 +276,8 @@ fn kind_of(form: &CallForm) -> CallKind
     }
 }
 
-// Where a selective accept leads by these alternatives, in which lies what stands from a place on; behind all of them comes the step
-// `next`, and this number of ways leads out.
+// Where a selective accept leads by these alternatives, in which lies what stands from a place on; behind all of them
+// comes the step `next`, and this number of ways leads out.
 fn offers(
     alloc: Global,
     alternatives: &[Alternative],

@@ -34,8 +34,8 @@ impl Writer {
     }
 }
 
-// The code of all bodies, one after the other, with its tables, and the barriers. Behind the bodies stands what is run for a number
-// that none has.
+// The code of all bodies, one after the other, with its tables, and the barriers. Behind the bodies stands what is run
+// for a number that none has.
 fn write_code(
     alloc: Global,
     units: &[Unit],

@@ -198,8 +198,9 @@ impl Hall {
         Some(self.places[index].limits())
     }
 
-    /// The stored requests of the session at a seat, where there is one. No memory is taken. The answers there are those of a
-    /// private server to them: so many of the first ones, and behind them, where memory was refused to the bench at home, that it is.
+    /// The stored requests of the session at a seat, where there is one. No memory is taken. The answers there are
+    /// those of a private server to them: so many of the first ones, and behind them, where memory was refused to the
+    /// bench at home, that it is.
     pub fn asked(&self, seat: usize) -> Option<&[Request]>
         ensures requests { MatchOption result (asked_at (place_at self.now seat) ≡ None)
             (λ r. asked_at (place_at self.now seat) ≡ Some r.now) }

@@ -1,5 +1,5 @@
-// How a program is laid out as code, and the laws that tie the steps of that code to the program's. The definitions stand in specs/.
-// What the generator knows of where statements lead stands here as well.
+// How a program is laid out as code, and the laws that tie the steps of that code to the program's. The definitions
+// stand in specs/. What the generator knows of where statements lead stands here as well.
 #![tactic(auto)]
 
 pub mod laws;

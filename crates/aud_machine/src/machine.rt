@@ -147,8 +147,8 @@ impl Machine {
         state_of(&self.state, self.compiled())
     }
 
-    /// The enabled moves, by the numbers of their tasks, counted from 0, and then by their alternatives. `take(k)` makes the one of
-    /// index k. There are none once the program has ended or its output is full.
+    /// The enabled moves, by the numbers of their tasks, counted from 0, and then by their alternatives. `take(k)`
+    /// makes the one of index k. There are none once the program has ended or its output is full.
     ///
     /// # Errors
     ///
@@ -198,9 +198,10 @@ impl Machine {
         self.state.steps()
     }
 
-    /// All that it has: the frames, the tasks, the calls, the protected objects, the clock and the steps taken. Each task stands where a
-    /// step begins, and its limits hold of them, if the machine isn't spent: so many tasks and objects, so many live frames of each task,
-    /// and so much output. Of frames and calls that are over, nothing need be left, and nothing of them is shown.
+    /// All that it has: the frames, the tasks, the calls, the protected objects, the clock and the steps taken. Each
+    /// task stands where a step begins, and its limits hold of them, if the machine isn't spent: so many tasks and
+    /// objects, so many live frames of each task, and so much output. Of frames and calls that are over, nothing need
+    /// be left, and nothing of them is shown.
     pub fn parts(&self) -> &State
         ensures all { result.now ≡ self.now.all }
         ensures within { self.now.spent ≡ false → 1 ≤ self.now.limits.tasks →

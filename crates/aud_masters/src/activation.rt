@@ -110,8 +110,8 @@ fn begin(
     Ok(())
 }
 
-/// A task's activation has ended, and perhaps failed: with the last one that it waits for the activator goes on, or has Tasking_Error
-/// pending (RM 9.2(5)).
+/// A task's activation has ended, and perhaps failed: with the last one that it waits for the activator goes on, or has
+/// Tasking_Error pending (RM 9.2(5)).
 pub fn end_activation(state: &mut State, code: &SoundCode, task: usize, failed: bool)
     ensures { (plan : Plan) → (barrier : ℕ → Sight → Result Bool RaiseOf) →
         state.new ≡ effect.activation_ended (going code.now) plan barrier failed task state.old }

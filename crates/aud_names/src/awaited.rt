@@ -7,7 +7,8 @@ ghost use Rattle.aud_names.specs.Objects.{is_object, is_unit};
 use aud_text::name::Name;
 use aud_text::place::Pos;
 
-/// A task or task type whose body is still to come (RM 3.11.1): its name, the numbers of its unit and of its type, and where the name stands.
+/// A task or task type whose body is still to come (RM 3.11.1): its name, the numbers of its unit and of its type, and
+/// where the name stands.
 #[derive(Drop)]
 pub struct Awaited {
     pub name: Name,

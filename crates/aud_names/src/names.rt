@@ -89,8 +89,8 @@ pub struct Entry {
     pub owner: Owner,
 }
 
-/// The task of an entry: the one behind whose name and a point it stands, or the one that runs the body where it stands by itself;
-/// or the protected object.
+/// The task of an entry: the one behind whose name and a point it stands, or the one that runs the body where it stands
+/// by itself; or the protected object.
 #[derive(Clone, Copy, PartialEq, Eq)]
 pub enum Owner {
     /// The task with the number in this cell.
@@ -100,7 +100,8 @@ pub enum Owner {
     Object(Instance),
 }
 
-/// From where an object is named: from outside its body, or from within, maybe in the body of one of its functions (RM 9.5(3, 4)).
+/// From where an object is named: from outside its body, or from within, maybe in the body of one of its functions (RM
+/// 9.5(3, 4)).
 #[derive(Clone, Copy, PartialEq, Eq)]
 pub enum Access {
     Outside,

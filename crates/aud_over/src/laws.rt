@@ -1,5 +1,5 @@
-// The laws of what is over, where what is left to do is said by statements and where it is said by places of code. Each function does
-// nothing: its contract is the law.
+// The laws of what is over, where what is left to do is said by statements and where it is said by places of code. Each
+// function does nothing: its contract is the law.
 
 ghost use Rattle.std.specs.Prelude.{List};
 ghost use Rattle.aud_meaning.specs.Configuration.{Item};
@@ -61,8 +61,8 @@ pub fn kept_law()
     ensures code { KeptLaw Spot }
 {}
 
-/// At the beginning, and behind each step that fits, those frames are open that are seen; then no other frame is named but those around
-/// objects, the first one and those that are kept for other reasons.
+/// At the beginning, and behind each step that fits, those frames are open that are seen; then no other frame is named
+/// but those around objects, the first one and those that are kept for other reasons.
 pub fn open_law()
     ensures statements_begin { OpensLaw (List Item) }
     ensures code_begin { OpensLaw Spot }

@@ -17,8 +17,8 @@ use aud_text::place::Pos;
 use aud_text::raise::Raise;
 use std::alloc::{AllocError, Global};
 
-/// The step declaration of an object with these cells of its components: it is created, and its number is the next variable of the
-/// task's innermost frame. Past the limit it raises Storage_Error.
+/// The step declaration of an object with these cells of its components: it is created, and its number is the next
+/// variable of the task's innermost frame. Past the limit it raises Storage_Error.
 ///
 /// # Errors
 ///

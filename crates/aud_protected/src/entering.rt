@@ -16,8 +16,8 @@ use aud_text::int32::Int32;
 use aud_text::place::Pos;
 use std::alloc::{AllocError, Global};
 
-/// The frame of a body of an object is opened in a task, with these values of its formals. It sees the frames of a display, and its
-/// own; these formals are copied back at its end.
+/// The frame of a body of an object is opened in a task, with these values of its formals. It sees the frames of a
+/// display, and its own; these formals are copied back at its end.
 pub(crate) fn open<B: Barriers>(
     state: &mut State,
     alloc: Global,
@@ -54,8 +54,8 @@ pub(crate) fn display_of(
     Ok(display)
 }
 
-/// The body of the entry of a call is entered by a task that has the object's action: the caller, or the one that serves it. What the
-/// task waits for or has pending is set aside (RM 9.5.2(24), 9.5.3(14)).
+/// The body of the entry of a call is entered by a task that has the object's action: the caller, or the one that
+/// serves it. What the task waits for or has pending is set aside (RM 9.5.2(24), 9.5.3(14)).
 pub(crate) fn enter_entry<B: Barriers>(
     state: &mut State,
     alloc: Global,

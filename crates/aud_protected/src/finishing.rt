@@ -22,8 +22,9 @@ use aud_store::target::Back;
 use aud_text::int32::Int32;
 use std::alloc::{AllocError, Global};
 
-/// The end of a procedure or function of an object, whose frame is the innermost one of the task: the caller goes on behind the call,
-/// or has the exception pending there. A function's action ends; else the object is serviced (RM 9.5.1(3), 9.5.3(13)).
+/// The end of a procedure or function of an object, whose frame is the innermost one of the task: the caller goes on
+/// behind the call, or has the exception pending there. A function's action ends; else the object is serviced (RM
+/// 9.5.1(3), 9.5.3(13)).
 ///
 /// # Errors
 ///
@@ -90,9 +91,9 @@ fn return_from(
     }
 }
 
-/// The end of an entry body for a call, whose frame is the innermost one of the task: the caller goes on behind the call, or has the
-/// exception pending there, whichever task has done the body. That goes back to what it was at, and services the object
-/// (RM 9.5.2(24), 9.5.3(13, 16)).
+/// The end of an entry body for a call, whose frame is the innermost one of the task: the caller goes on behind the
+/// call, or has the exception pending there, whichever task has done the body. That goes back to what it was at, and
+/// services the object (RM 9.5.2(24), 9.5.3(13, 16)).
 ///
 /// # Errors
 ///

@@ -19,8 +19,9 @@ use aud_text::place::Pos;
 use aud_text::raise::Raise;
 use std::alloc::{AllocError, Global};
 
-/// A task that has an object's action services it: where an entry is eligible, the task stands where it serves, else the action ends.
-/// Where a barrier raises an exception, all calls that are queued on the object have Program_Error (RM 9.5.3(7)).
+/// A task that has an object's action services it: where an entry is eligible, the task stands where it serves, else
+/// the action ends. Where a barrier raises an exception, all calls that are queued on the object have Program_Error (RM
+/// 9.5.3(7)).
 ///
 /// # Errors
 ///
@@ -75,8 +76,9 @@ fn refuse_all(
     Ok(())
 }
 
-/// The step serve of a task that services an object: it enters the body of the entry of this index in the order of the text, from 1,
-/// for the call that waits there for longest; or none is left, and the object is serviced anew (RM 9.5.3(14)).
+/// The step serve of a task that services an object: it enters the body of the entry of this index in the order of the
+/// text, from 1, for the call that waits there for longest; or none is left, and the object is serviced anew (RM
+/// 9.5.3(14)).
 ///
 /// # Errors
 ///

@@ -28,10 +28,10 @@ use aud_text::raise::Raise;
 use aud_typed::program::Exception;
 use std::alloc::{AllocError, Global};
 
-/// A task calls an entry of an object. Where the barrier holds, the task itself enters the body; else the call is queued and the
-/// object serviced, or a conditional call's else part is taken. Within another protected action it raises Program_Error, where there
-/// is no room for the body's frame Storage_Error, and Program_Error in all calls on the object where the barrier raises an exception
-/// (RM 9.5.3(7 to 12), 9.5.1(8 to 16)).
+/// A task calls an entry of an object. Where the barrier holds, the task itself enters the body; else the call is
+/// queued and the object serviced, or a conditional call's else part is taken. Within another protected action it
+/// raises Program_Error, where there is no room for the body's frame Storage_Error, and Program_Error in all calls on
+/// the object where the barrier raises an exception (RM 9.5.3(7 to 12), 9.5.1(8 to 16)).
 ///
 /// # Errors
 ///
@@ -151,9 +151,10 @@ fn is_conditional(form: Form) -> bool
     }
 }
 
-/// A task calls a procedure or function of an object, with these values of its formals; these are copied back at its end, and a
-/// function's value is assigned to a target. On an object on which it has an action it raises Program_Error, where there is no room
-/// for the body's frame Storage_Error (RM 9.5.1(3 to 6)). Another task's action must not be in the way.
+/// A task calls a procedure or function of an object, with these values of its formals; these are copied back at its
+/// end, and a function's value is assigned to a target. On an object on which it has an action it raises Program_Error,
+/// where there is no room for the body's frame Storage_Error (RM 9.5.1(3 to 6)). Another task's action must not be in
+/// the way.
 ///
 /// # Errors
 ///

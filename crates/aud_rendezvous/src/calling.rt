@@ -19,9 +19,10 @@ use aud_text::raise::Raise;
 use aud_typed::program::Exception;
 use std::alloc::{AllocError, Global};
 
-/// A task calls another one's entry. Where the entry is open, the call is selected at once: at the alternative of this number, or else
-/// at the first. Where it is not, it is queued, or a conditional call's else part is taken. In a protected action it raises
-/// Program_Error, and Tasking_Error where the task called is completed, terminated or abnormal.
+/// A task calls another one's entry. Where the entry is open, the call is selected at once: at the alternative of this
+/// number, or else at the first. Where it is not, it is queued, or a conditional call's else part is taken. In a
+/// protected action it raises Program_Error, and Tasking_Error where the task called is completed, terminated or
+/// abnormal.
 ///
 /// # Errors
 ///

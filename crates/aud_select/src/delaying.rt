@@ -16,8 +16,8 @@ use aud_text::raise::Raise;
 use aud_typed::program::Exception;
 use std::alloc::{AllocError, Global};
 
-/// The step delay, of so many milliseconds: the task waits until that time, or goes on at once where there are none. In a protected
-/// action it raises Program_Error (RM 9.5.1(8 to 16)).
+/// The step delay, of so many milliseconds: the task waits until that time, or goes on at once where there are none. In
+/// a protected action it raises Program_Error (RM 9.5.1(8 to 16)).
 ///
 /// # Errors
 ///

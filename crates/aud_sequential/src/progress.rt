@@ -35,8 +35,9 @@ use std::alloc::{AllocError, Global};
 use std::collections::VecDeque;
 use std::marker::Model;
 
-/// Where a task stands in the code, the places of its calls under way, the outermost one first, and the exception that is pending,
-/// with its open frames; all frames, the output, the choices that wait, the time on the clock, and the steps taken.
+/// Where a task stands in the code, the places of its calls under way, the outermost one first, and the exception that
+/// is pending, with its open frames; all frames, the output, the choices that wait, the time on the clock, and the
+/// steps taken.
 pub struct Progress {
     place: usize,
     returns: Vec<usize>,

@@ -8,8 +8,8 @@ use std::alloc::Global;
 use std::net::TcpStream;
 use std::sync::Wait;
 
-/// What works, and serves connections, on many threads: a desk. Where threads share a type of which no more is known than this, their
-/// closures need no proof of their own that they may.
+/// What works, and serves connections, on many threads: a desk. Where threads share a type of which no more is known
+/// than this, their closures need no proof of their own that they may.
 pub trait Host {
     /// Works until the host has stopped.
     fn work<R: Wait, G: Gate>(&self, rt: &R, alloc: Global, gate: &G);

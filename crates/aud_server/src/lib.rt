@@ -1,5 +1,5 @@
-// The program: its command line, and how it ends. On standard input and output it serves the session of `aud_solo`; else it listens,
-// and serves connections at a desk.
+// The program: its command line, and how it ends. On standard input and output it serves the session of `aud_solo`;
+// else it listens, and serves connections at a desk.
 #![tactic(auto)]
 
 pub mod host;

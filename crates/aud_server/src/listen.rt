@@ -40,8 +40,8 @@ impl From<AllocError> for ListenFault {
 ///
 /// # Errors
 ///
-/// `Listen` where the port cannot be listened on, or a connection cannot be accepted; `Memory` where it is refused before the first
-/// connection, or a worker cannot be started.
+/// `Listen` where the port cannot be listened on, or a connection cannot be accepted; `Memory` where it is refused
+/// before the first connection, or a worker cannot be started.
 pub fn listen<R>(rt: &R, alloc: Global, options: Options) -> Result<(), ListenFault>
 where
     R: Net<Listener = TcpListener, Stream = TcpStream> + Threads + Wait + Sync,

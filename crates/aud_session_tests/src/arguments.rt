@@ -20,8 +20,9 @@ pub enum Task<'a> {
     Idle { seats: u32 },
 }
 
-/// What the words of the command line ask for, the first of which is the program's own name: `--halls` and files, then `--programs` and
-/// files, then `--sessions` and files, or the last ones alone; `--idle` and a number of seats; `--work` and the numbers of a measure.
+/// What the words of the command line ask for, the first of which is the program's own name: `--halls` and files, then
+/// `--programs` and files, then `--sessions` and files, or the last ones alone; `--idle` and a number of seats;
+/// `--work` and the numbers of a measure.
 ///
 /// # Errors
 ///

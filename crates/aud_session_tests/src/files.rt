@@ -7,8 +7,8 @@ use crate::session::{Session, sessions};
 use std::alloc::Global;
 use std::{fs, io};
 
-/// How many sessions of these files are answered otherwise than their file says, programs are read otherwise from their canonical texts,
-/// and files cannot be looked at. Tells of each file.
+/// How many sessions of these files are answered otherwise than their file says, programs are read otherwise from their
+/// canonical texts, and files cannot be looked at. Tells of each file.
 pub fn look_at_files(rt: &HostRuntime, files: &[String]) -> io::Result<usize> {
     let mut others = 0usize;
     for file in files {

@@ -1,5 +1,5 @@
-// Makes the calls of rows in halls, prints programs, sends sessions to servers in memory, and tells where something else comes than must
-// come; it also times halls.
+// Makes the calls of rows in halls, prints programs, sends sessions to servers in memory, and tells where something
+// else comes than must come; it also times halls.
 #![tactic(auto)]
 
 mod arguments;

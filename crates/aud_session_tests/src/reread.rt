@@ -12,8 +12,8 @@ use aud_syntax::print::print;
 use aud_text::text::Text;
 use std::alloc::Global;
 
-/// How many of the source texts that are sent are programs by the grammar, and how many of these are read otherwise from their canonical
-/// texts.
+/// How many of the source texts that are sent are programs by the grammar, and how many of these are read otherwise
+/// from their canonical texts.
 #[derive(Clone, Copy, PartialEq, Eq, Debug)]
 pub struct Reread {
     pub programs: usize,

@@ -5,7 +5,8 @@
 // - `* 127 ` and a line that is sent or written so many times, itself a text as `repeated` has it;
 // - `- ` and such a text, which no line feed ends.
 //
-// Empty lines, and those that begin with `#`, are for the reader. A session that sends no byte says so by a line that sends an empty text.
+// Empty lines, and those that begin with `#`, are for the reader. A session that sends no byte says so by a line that
+// sends an empty text.
 
 use crate::repeated::{TextFault, push_lines, push_text};
 use std::alloc::{AllocError, Global};
@@ -44,8 +45,8 @@ impl From<AllocError> for LineFault {
 ///
 /// # Errors
 ///
-/// `Line` or `Form` with the first line that is none of a session, `Silent` with the first session that sends nothing, and `NoSession`
-/// where there is none; `Memory` where memory is refused.
+/// `Line` or `Form` with the first line that is none of a session, `Silent` with the first session that sends nothing,
+/// and `NoSession` where there is none; `Memory` where memory is refused.
 pub fn sessions(alloc: Global, text: &str) -> Result<Vec<Session>, LineFault> {
     let mut sessions = Vec::new(alloc);
     let mut number = 0usize;

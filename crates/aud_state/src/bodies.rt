@@ -114,8 +114,8 @@ impl State {
         Ok(())
     }
 
-    /// The frame of a body of an object is opened in a task, with these values of its formals. It sees the frames of a display, and
-    /// its own; these formals are copied back at its end.
+    /// The frame of a body of an object is opened in a task, with these values of its formals. It sees the frames of a
+    /// display, and its own; these formals are copied back at its end.
     ///
     /// # Errors
     ///

@@ -38,8 +38,8 @@ pub struct Call {
     pub state: CallState,
 }
 
-/// An entry call that is made, and queued nowhere yet: whose it is, the entry, the formals' values, what is copied back, how it is
-/// made, and where it stands.
+/// An entry call that is made, and queued nowhere yet: whose it is, the entry, the formals' values, what is copied
+/// back, how it is made, and where it stands.
 #[derive(Drop)]
 pub struct NewCall {
     pub caller: usize,
@@ -104,8 +104,8 @@ impl Call {
     }
 }
 
-/// All entry calls ever made, by their numbers, and those that are queued, by their entries. Of those that are given back nothing is
-/// kept but that they are over.
+/// All entry calls ever made, by their numbers, and those that are queued, by their entries. Of those that are given
+/// back nothing is kept but that they are over.
 // What is fresh came since calls were last given back.
 #[derive(Drop)]
 pub struct Calls {

@@ -18,8 +18,9 @@ impl State {
         self.progress.is_due()
     }
 
-    /// Gives back the frames that are over: those that no task sees, has open or comes back to, that lie around no object, and
-    /// that are no master of a task which isn't terminated (RM 9.3). Nothing depends on them any more. All others stay as they are.
+    /// Gives back the frames that are over: those that no task sees, has open or comes back to, that lie around no
+    /// object, and that are no master of a task which isn't terminated (RM 9.3). Nothing depends on them any more. All
+    /// others stay as they are.
     ///
     /// # Errors
     ///
@@ -39,13 +40,14 @@ impl State {
         Ok(())
     }
 
-    /// Whether so many calls were made since calls were last given back that looking for some is worth its time. Any answer is right.
+    /// Whether so many calls were made since calls were last given back that looking for some is worth its time. Any
+    /// answer is right.
     pub fn are_calls_due(&self) -> bool {
         self.calls.is_due()
     }
 
-    /// Gives back the calls that are over and for which no frame is open. Nothing depends on them any more. All others stay as they
-    /// are, and all keep their numbers.
+    /// Gives back the calls that are over and for which no frame is open. Nothing depends on them any more. All others
+    /// stay as they are, and all keep their numbers.
     ///
     /// # Errors
     ///
@@ -62,8 +64,8 @@ impl State {
 }
 
 impl Task {
-    // Puts the frames that it keeps after others: those that it names, and unless it is terminated those of the masters on which it
-    // depends.
+    // Puts the frames that it keeps after others: those that it names, and unless it is terminated those of the masters
+    // on which it depends.
     fn put_kept(&self, kept: &mut Vec<usize>) -> Result<(), AllocError>
         ensures { OnOk result ((frame : ℕ) → contains frame kept.new.items ≡
             (contains frame kept.old.items || keeps frame (plain_task self.now))) }
@@ -85,7 +87,8 @@ impl Task {
 
     // The masters on which it depends, unless it is terminated.
     fn masters_held(&self) -> &[usize]
-        ensures { result.now ≡ (if is_terminated self.now.condition.status then [] else self.now.masters.items) }
+        ensures { result.now
+            ≡ (if is_terminated self.now.condition.status then [] else self.now.masters.items) }
     {
         if self.is_terminated() {
             &[]

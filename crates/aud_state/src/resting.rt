@@ -11,8 +11,8 @@ use crate::task::Task;
 use aud_meaning::state::Status;
 
 impl State {
-    /// Whether a task rests: it waits for other tasks, or for a time that has not come. So much one look at it tells; it may have no
-    /// move in other cases, too.
+    /// Whether a task rests: it waits for other tasks, or for a time that has not come. So much one look at it tells;
+    /// it may have no move in other cases, too.
     // A run asks it of each task before each step that it looks for.
     #[inline(always)]
     pub fn rests(&self, task: usize) -> bool
@@ -24,7 +24,8 @@ impl State {
         false
     }
 
-    /// The first task from this number on of which one look does not tell that it rests. Where there is none, a number behind all.
+    /// The first task from this number on of which one look does not tell that it rests. Where there is none, a number
+    /// behind all.
     pub fn next_awake(&self, from: usize) -> usize
         ensures on { from ≤ result }
         ensures within { from < result → result ≤ length self.now.tasks }

@@ -70,9 +70,9 @@ impl State {
         Ok(Vec::new(alloc))
     }
 
-    /// A procedure or function whose frame is left ends normally: its formals are copied back and a function's value is assigned, as
-    /// far as checks hold, and the task goes on behind the call. It has Program_Error pending where a function has no value, or the
-    /// exception of the first check that fails (RM 6.4.1(17), 6.5).
+    /// A procedure or function whose frame is left ends normally: its formals are copied back and a function's value is
+    /// assigned, as far as checks hold, and the task goes on behind the call. It has Program_Error pending where a
+    /// function has no value, or the exception of the first check that fails (RM 6.4.1(17), 6.5).
     ///
     /// # Errors
     ///

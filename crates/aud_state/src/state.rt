@@ -19,8 +19,8 @@ use aud_typed::program::Exception;
 use std::alloc::Global;
 use std::marker::Model;
 
-/// All tasks ever created, by their numbers, of which the main procedure has the first; what all share, with nothing in the place of
-/// a task's part; all entry calls and all protected objects.
+/// All tasks ever created, by their numbers, of which the main procedure has the first; what all share, with nothing in
+/// the place of a task's part; all entry calls and all protected objects.
 // The task that took the last step is kept to be looked at first.
 pub struct State {
     pub(crate) tasks: Vec<Task>,
@@ -74,7 +74,11 @@ impl State {
 
     /// It goes on behind the construct at whose end it stands, with nothing pending.
     pub fn pass_end(&mut self, code: &SoundCode, n: usize)
-        ensures { self.new ≡ on_task n (λ t. record t { control = (going code.now).behind t.control; own = record t.own { pending = None } }) self.old }
+        ensures { self.new
+            ≡ on_task n (λ t. record t {
+              control = (going code.now).behind t.control;
+              own = record t.own { pending = None };
+            }) self.old }
     {
         if n < self.tasks.len() {
             self.tasks[n].pass_end(code);
@@ -83,7 +87,11 @@ impl State {
 
     /// An exception leaves the innermost construct around its place, and is pending no more.
     pub fn leave_by(&mut self, code: &SoundCode, n: usize, exception: Exception)
-        ensures { self.new ≡ on_task n (λ t. record t { control = (going code.now).left exception t.control; own = record t.own { pending = None } }) self.old }
+        ensures { self.new
+            ≡ on_task n (λ t. record t {
+              control = (going code.now).left exception t.control;
+              own = record t.own { pending = None };
+            }) self.old }
     {
         if n < self.tasks.len() {
             self.tasks[n].leave_by(code, exception);
@@ -110,7 +118,8 @@ impl State {
 
     /// It waits until the tasks that it activates are activated.
     pub fn block_activating(&mut self, n: usize, at: Pos)
-        ensures { self.new ≡ on_own n (λ own. record (blocks status.Activating at no_waits own) { failed = false }) self.old }
+        ensures { self.new
+            ≡ on_own n (λ own. record (blocks status.Activating at no_waits own) { failed = false }) self.old }
     {
         if n < self.tasks.len() {
             self.tasks[n].block_activating(at);
@@ -128,7 +137,8 @@ impl State {
 
     /// Its activation begins, for which another one waits.
     pub fn begin(&mut self, n: usize, activator: usize)
-        ensures { self.new ≡ on_own n (λ own. record own { status = status.Running; activator = Some activator }) self.old }
+        ensures { self.new
+            ≡ on_own n (λ own. record own { status = status.Running; activator = Some activator }) self.old }
     {
         if n < self.tasks.len() {
             self.tasks[n].begin(activator);
@@ -137,7 +147,13 @@ impl State {
 
     /// Its body is completed, by an exception or without one.
     pub fn complete_own(&mut self, n: usize, raised: Option<Exception>)
-        ensures { self.new ≡ on_own n (λ own. record own { status = status.Completed; pending = None; raised = raised; waits = no_waits }) self.old }
+        ensures { self.new
+            ≡ on_own n (λ own. record own {
+              status = status.Completed;
+              pending = None;
+              raised = raised;
+              waits = no_waits;
+            }) self.old }
     {
         if n < self.tasks.len() {
             self.tasks[n].complete_own(raised);
@@ -146,7 +162,14 @@ impl State {
 
     /// It is terminated, and loses its frames.
     pub fn terminate_own(&mut self, alloc: Global, n: usize)
-        ensures { self.new ≡ on_own n (λ own. record own { status = status.Terminated; pending = None; display = []; opened = []; waits = no_waits }) self.old }
+        ensures { self.new
+            ≡ on_own n (λ own. record own {
+              status = status.Terminated;
+              pending = None;
+              display = [];
+              opened = [];
+              waits = no_waits;
+            }) self.old }
     {
         if n < self.tasks.len() {
             self.tasks[n].terminate_own(alloc);

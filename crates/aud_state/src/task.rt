@@ -54,10 +54,10 @@ impl Waits {
     }
 }
 
-/// A task: its name, of an element of an array with its number; its type, its body; what it works on by itself; the exception that
-/// completed it; the masters that it depends on; the declarative part that created it; the task that waits for its activation;
-/// whether an activation that it waited for failed; where it is blocked; how far it is, and at what it is blocked; its entry call,
-/// and the object from which it withdraws.
+/// A task: its name, of an element of an array with its number; its type, its body; what it works on by itself; the
+/// exception that completed it; the masters that it depends on; the declarative part that created it; the task that
+/// waits for its activation; whether an activation that it waited for failed; where it is blocked; how far it is, and
+/// at what it is blocked; its entry call, and the object from which it withdraws.
 #[derive(Drop)]
 pub struct Task {
     pub(crate) name: Name,
@@ -205,14 +205,21 @@ impl Task {
 
     /// The part of this number follows of what stands there.
     pub(crate) fn take(&mut self, code: &SoundCode, part: usize)
-        ensures { plain_task self.new ≡ record (plain_task self.old) { control = (going code.now).takes part (plain_task self.old).control } }
+        ensures { plain_task self.new
+            ≡ record (plain_task self.old) {
+              control = (going code.now).takes part (plain_task self.old).control;
+            } }
     {
         self.parked.take(code, part);
     }
 
     /// It goes on behind the construct at whose end it stands, with nothing pending.
     pub(crate) fn pass_end(&mut self, code: &SoundCode)
-        ensures { plain_task self.new ≡ record (plain_task self.old) { control = (going code.now).behind (plain_task self.old).control; own = record (plain_task self.old).own { pending = None } } }
+        ensures { plain_task self.new
+            ≡ record (plain_task self.old) {
+              control = (going code.now).behind (plain_task self.old).control;
+              own = record (plain_task self.old).own { pending = None };
+            } }
     {
         self.parked.pass_end(code);
         self.parked.set_pending(None);
@@ -220,7 +227,11 @@ impl Task {
 
     /// An exception leaves the innermost construct around its place, and is pending no more.
     pub(crate) fn leave_by(&mut self, code: &SoundCode, exception: Exception)
-        ensures { plain_task self.new ≡ record (plain_task self.old) { control = (going code.now).left exception (plain_task self.old).control; own = record (plain_task self.old).own { pending = None } } }
+        ensures { plain_task self.new
+            ≡ record (plain_task self.old) {
+              control = (going code.now).left exception (plain_task self.old).control;
+              own = record (plain_task self.old).own { pending = None };
+            } }
     {
         self.parked.leave_by(code, exception);
         self.parked.set_pending(None);
@@ -228,7 +239,10 @@ impl Task {
 
     /// It goes on, with an exception pending where it stands.
     pub(crate) fn fail(&mut self, exception: Exception, at: Pos)
-        ensures { plain_task self.new ≡ record (plain_task self.old) { own = pends exception at (runs (plain_task self.old).own) } }
+        ensures { plain_task self.new
+            ≡ record (plain_task self.old) {
+              own = pends exception at (runs (plain_task self.old).own);
+            } }
     {
         self.parked.set_pending(Some(Pending { exception, at }));
         self.go_on();
@@ -236,14 +250,20 @@ impl Task {
 
     /// An exception is pending where it stands.
     pub(crate) fn raise(&mut self, exception: Exception, at: Pos)
-        ensures { plain_task self.new ≡ record (plain_task self.old) { own = pends exception at (plain_task self.old).own } }
+        ensures { plain_task self.new
+            ≡ record (plain_task self.old) { own = pends exception at (plain_task self.old).own } }
     {
         self.parked.set_pending(Some(Pending { exception, at }));
     }
 
     /// It waits until the tasks that it activates are activated.
     pub(crate) fn block_activating(&mut self, at: Pos)
-        ensures { plain_task self.new ≡ record (plain_task self.old) { own = record (blocks Activating at no_waits (plain_task self.old).own) { failed = false } } }
+        ensures { plain_task self.new
+            ≡ record (plain_task self.old) {
+              own = record (blocks Activating at no_waits (plain_task self.old).own) {
+                failed = false;
+              };
+            } }
     {
         self.block(Status::Activating, at);
         self.failed = false;
@@ -266,7 +286,13 @@ impl Task {
 
     /// Its activation begins, for which another one waits.
     pub(crate) fn begin(&mut self, activator: usize)
-        ensures { plain_task self.new ≡ record (plain_task self.old) { own = record (plain_task self.old).own { status = Running; activator = Some activator } } }
+        ensures { plain_task self.new
+            ≡ record (plain_task self.old) {
+              own = record (plain_task self.old).own {
+                status = Running;
+                activator = Some activator;
+              };
+            } }
     {
         self.condition.come_to(Status::Running);
         self.activator = Some(activator);
@@ -274,7 +300,15 @@ impl Task {
 
     /// Its body is completed, by an exception or without one.
     pub(crate) fn complete_own(&mut self, raised: Option<Exception>)
-        ensures { plain_task self.new ≡ record (plain_task self.old) { own = record (plain_task self.old).own { status = Completed; pending = None; raised = raised; waits = no_waits } } }
+        ensures { plain_task self.new
+            ≡ record (plain_task self.old) {
+              own = record (plain_task self.old).own {
+                status = Completed;
+                pending = None;
+                raised = raised;
+                waits = no_waits;
+              };
+            } }
     {
         self.condition.come_free_to(Status::Completed);
         self.parked.set_pending(None);
@@ -283,7 +317,16 @@ impl Task {
 
     /// It is terminated, and loses its frames.
     pub(crate) fn terminate_own(&mut self, alloc: Global)
-        ensures { plain_task self.new ≡ record (plain_task self.old) { own = record (plain_task self.old).own { status = Terminated; pending = None; display = []; opened = []; waits = no_waits } } }
+        ensures { plain_task self.new
+            ≡ record (plain_task self.old) {
+              own = record (plain_task self.old).own {
+                status = Terminated;
+                pending = None;
+                display = [];
+                opened = [];
+                waits = no_waits;
+              };
+            } }
     {
         self.condition.come_free_to(Status::Terminated);
         self.parked.lose_frames(alloc);
@@ -291,14 +334,22 @@ impl Task {
 
     /// An activation for which it waits has failed, or not.
     pub(crate) fn note_failure(&mut self, failed: bool)
-        ensures { plain_task self.new ≡ record (plain_task self.old) { own = record (plain_task self.old).own { failed = (plain_task self.old).own.failed || failed } } }
+        ensures { plain_task self.new
+            ≡ record (plain_task self.old) {
+              own = record (plain_task self.old).own {
+                failed = (plain_task self.old).own.failed || failed;
+              };
+            } }
     {
         self.failed = self.failed || failed;
     }
 
     /// No task waits for its activation any more.
     pub(crate) fn not_awaited(&mut self)
-        ensures { plain_task self.new ≡ record (plain_task self.old) { own = record (plain_task self.old).own { activator = None } } }
+        ensures { plain_task self.new
+            ≡ record (plain_task self.old) {
+              own = record (plain_task self.old).own { activator = None };
+            } }
     {
         self.activator = None;
     }
@@ -312,14 +363,18 @@ impl Task {
 
     /// Its innermost frame is left.
     pub(crate) fn close(&mut self)
-        ensures { plain_task self.new ≡ record (plain_task self.old) { own = closed (plain_task self.old).own } }
+        ensures { plain_task self.new
+            ≡ record (plain_task self.old) { own = closed (plain_task self.old).own } }
     {
         self.parked.close();
     }
 
     /// Its innermost frame is left, with an exception pending behind it.
     pub(crate) fn close_raising(&mut self, exception: Exception, at: Pos)
-        ensures { plain_task self.new ≡ record (plain_task self.old) { own = pends exception at (closed (plain_task self.old).own) } }
+        ensures { plain_task self.new
+            ≡ record (plain_task self.old) {
+              own = pends exception at (closed (plain_task self.old).own);
+            } }
     {
         self.parked.close();
         self.parked.set_pending(Some(Pending { exception, at }));
@@ -327,14 +382,16 @@ impl Task {
 
     /// The frames of so many loops are left.
     pub(crate) fn out_of(&mut self, loops: usize)
-        ensures { plain_task self.new ≡ record (plain_task self.old) { own = out_of loops (plain_task self.old).own } }
+        ensures { plain_task self.new
+            ≡ record (plain_task self.old) { own = out_of loops (plain_task self.old).own } }
     {
         self.parked.close_times(loops);
     }
 
     /// The frames of the loops within its innermost construct are left.
     pub(crate) fn out_of_loops(&mut self)
-        ensures { plain_task self.new ≡ record (plain_task self.old) { own = out_of_loops (plain_task self.old).own } }
+        ensures { plain_task self.new
+            ≡ record (plain_task self.old) { own = out_of_loops (plain_task self.old).own } }
     {
         self.parked.close_loops();
     }

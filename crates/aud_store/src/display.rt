@@ -1,6 +1,6 @@
-// The numbers of the frames that are seen. A frame that is opened takes the place behind those that it sees; what stood there comes back
-// when it is left, so opening and leaving a frame costs the same however many are seen or hidden. A body that sees other frames than
-// the one that enters it has them behind all numbers.
+// The numbers of the frames that are seen. A frame that is opened takes the place behind those that it sees; what stood
+// there comes back when it is left, so opening and leaving a frame costs the same however many are seen or hidden. A
+// body that sees other frames than the one that enters it has them behind all numbers.
 
 ghost use Rattle.std.specs.Prelude.{◌≡◌, ◌+◌, ◌≤◌, ◌<◌, [], length, take, OnErr, IfOk};
 ghost use Rattle.aud_store.specs.Ties.Display.{end_of, number_of, placed, put_back, seen, set_apart, stands, stands_apart};

@@ -92,8 +92,8 @@ impl Frames {
         }
     }
 
-    /// The key under which the variables of a frame lie, for tests and for looking on: none for the first frame, which has no key,
-    /// and none for one that was given back. Keys of frames that were given back become those of others.
+    /// The key under which the variables of a frame lie, for tests and for looking on: none for the first frame, which
+    /// has no key, and none for one that was given back. Keys of frames that were given back become those of others.
     pub fn key(&self, number: usize) -> Option<usize>
         ensures { IsNone result → 0 < number → slice_index_or self.now number [] ≡ [] }
     {
@@ -157,7 +157,8 @@ impl Frames {
         self.shelf.write(self.made, frame, index, value);
     }
 
-    /// Other cells of a frame. It gives those that it had; none where it was given back, and then nothing changes. No memory is taken.
+    /// Other cells of a frame. It gives those that it had; none where it was given back, and then nothing changes. No
+    /// memory is taken.
     pub fn replace(&mut self, frame: usize, cells: Cells) -> Option<Cells>
         requires { frame < length self.old }
         ensures given { IfSome result (λ given. given.items ≡ slice_index_or self.old frame []) }
@@ -171,7 +172,8 @@ impl Frames {
         self.shelf.replace(self.made, frame, cells)
     }
 
-    /// All frames are given back but the first one and those of these numbers, which are put in order meanwhile. No memory is taken.
+    /// All frames are given back but the first one and those of these numbers, which are put in order meanwhile. No
+    /// memory is taken.
     pub fn forget(&mut self, named: &mut [usize])
         ensures { self.new ≡ only_named named.old self.old }
     {

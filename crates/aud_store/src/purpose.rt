@@ -9,8 +9,8 @@ use crate::target::Target;
 use aud_meaning::state::Resumed;
 use aud_text::int32::Int32;
 
-/// What the end of a procedure or function does: so many formals are copied back; a function's value is assigned to the target that
-/// its call found, if it found one, once a return statement has given it.
+/// What the end of a procedure or function does: so many formals are copied back; a function's value is assigned to the
+/// target that its call found, if it found one, once a return statement has given it.
 #[derive(Clone, Copy, PartialEq, Eq)]
 pub struct Returns {
     pub is_function: bool,

@@ -169,8 +169,8 @@ impl Shelf {
         self.kept.truncate(left);
     }
 
-    // Where the frame of a number stands, or else where it would. The frames that were made last are mostly kept without a gap: the
-    // place that follows from that is looked at first.
+    // Where the frame of a number stands, or else where it would. The frames that were made last are mostly kept
+    // without a gap: the place that follows from that is looked at first.
     #[inline(always)]
     fn find(&self, made: usize, number: usize) -> Result<usize, usize>
         requires { AllPairs Precedes self.now.kept.items }

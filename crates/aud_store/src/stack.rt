@@ -383,8 +383,8 @@ impl Stack {
         &self.opened
     }
 
-    /// Appends the numbers of all frames that it names, and no other: of those that are seen or hidden, of those that are open, and of
-    /// those that an open one stands in place of. Some may be there more than once.
+    /// Appends the numbers of all frames that it names, and no other: of those that are seen or hidden, of those that
+    /// are open, and of those that an open one stands in place of. Some may be there more than once.
     pub fn names(&self, into: &mut Vec<usize>) -> Result<(), AllocError>
         ensures { OnOk result
             (NamesAll into.old.items into.new.items self.now.display self.now.opened) }
@@ -437,7 +437,8 @@ fn numbers_of(alloc: Global, opened: &[Open]) -> Result<Vec<usize>, AllocError>
 
 // How many of these are counted.
 fn count_live(opened: &[Open]) -> usize
-    ensures { result ≡ length (filter (λ o. is_counted (plain_purpose o.purpose [])) (reverse opened.now)) }
+    ensures { result
+        ≡ length (filter (λ o. is_counted (plain_purpose o.purpose [])) (reverse opened.now)) }
 {
     opened
         .iter()

@@ -21,7 +21,8 @@ use std::alloc::{AllocError, Global};
 use std::marker::Model;
 use std::mem;
 
-/// The frames of a program: all that were ever made, of whichever task, and those that are open of the task whose part lies here, if one does.
+/// The frames of a program: all that were ever made, of whichever task, and those that are open of the task whose part
+/// lies here, if one does.
 #[derive(Drop)]
 pub struct Store {
     frames: Frames,
@@ -248,8 +249,8 @@ impl Store {
         }
     }
 
-    /// Other cells of a frame. It gives those that it had; none where there is no such frame or it was given back, and then nothing
-    /// changes. No memory is taken.
+    /// Other cells of a frame. It gives those that it had; none where there is no such frame or it was given back, and
+    /// then nothing changes. No memory is taken.
     pub fn replace(&mut self, frame: usize, cells: Cells) -> Option<Cells>
         ensures within { OnSome result (frame < length self.old.frames) }
         ensures given { IfSome result (λ given.

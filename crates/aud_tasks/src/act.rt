@@ -24,8 +24,8 @@ use aud_state::state::State;
 use aud_text::raise::Raise;
 use std::alloc::{AllocError, Global};
 
-/// A task goes on by itself: its next statement, by the alternative that the move picks, or what an exception does that is pending. It
-/// gives the instructions that were executed.
+/// A task goes on by itself: its next statement, by the alternative that the move picks, or what an exception does that
+/// is pending. It gives the instructions that were executed.
 pub(crate) fn act(
     state: &mut State,
     alloc: Global,
@@ -71,8 +71,8 @@ fn propagate(
     }
 }
 
-// With nothing pending: its expressions are evaluated, and its ending follows, or the exception that they raise. Behind all lines it has
-// nothing left to do.
+// With nothing pending: its expressions are evaluated, and its ending follows, or the exception that they raise. Behind
+// all lines it has nothing left to do.
 fn execute(
     state: &mut State,
     alloc: Global,

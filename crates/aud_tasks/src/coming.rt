@@ -20,8 +20,8 @@ use aud_state::state::State;
 use aud_text::place::Pos;
 use aud_typed::program::Unit;
 
-/// What is shown of the task of this number, counted from 0: the kind of the step of its turn, `Null` where it rests; and the place
-/// of the step in the text, or, while an exception is pending, the place where that was raised.
+/// What is shown of the task of this number, counted from 0: the kind of the step of its turn, `Null` where it rests;
+/// and the place of the step in the text, or, while an exception is pending, the place where that was raised.
 pub fn shown_step(state: &State, compiled: Compiled<'_>, task: usize) -> NextStep
     ensures { let plan = (plain_program compiled.entry.program.now).plan in
         result ≡ step_in plan compiled.entry.code.now task state.now }

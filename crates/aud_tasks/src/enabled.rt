@@ -8,8 +8,8 @@ ghost use Rattle.aud_tasks.specs.Moving.{picked};
 use aud_meaning::state::{Move, OpenDelay};
 use std::alloc::AllocError;
 
-/// The moves that a task has: none; its next step alone; one for each of these alternatives, and its next step alone where there are
-/// none of them; or one for each of these delays whose time has come.
+/// The moves that a task has: none; its next step alone; one for each of these alternatives, and its next step alone
+/// where there are none of them; or one for each of these delays whose time has come.
 #[derive(Drop)]
 pub(crate) enum Enabled<'a> {
     None,

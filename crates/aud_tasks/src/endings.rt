@@ -84,8 +84,8 @@ pub(crate) fn finish(
     }
 }
 
-/// What it does where the evaluation before it raises: the exception is pending there, and ends the part of a declaration. Where nothing
-/// is evaluated it does what it does.
+/// What it does where the evaluation before it raises: the exception is pending there, and ends the part of a
+/// declaration. Where nothing is evaluated it does what it does.
 pub(crate) fn fail(
     state: &mut State,
     alloc: Global,

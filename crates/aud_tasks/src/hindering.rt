@@ -13,8 +13,8 @@ use crate::compiled::Compiled;
 use aud_meaning::state::Status;
 use aud_state::state::State;
 
-/// Whether it can't: which object an action is of, a variable tells, but where all objects are idle none is in the way, and where no
-/// other task is to begin one none is asked for.
+/// Whether it can't: which object an action is of, a variable tells, but where all objects are idle none is in the way,
+/// and where no other task is to begin one none is asked for.
 pub(crate) fn hinders_none(state: &State, compiled: Compiled<'_>, task: usize) -> bool
     ensures { IsTrue result → HindersNone (plain_program compiled.entry.program.now).plan
         compiled.entry.code.now task state.now }

@@ -71,7 +71,8 @@ pub(crate) fn leave_by(
     Ok(ticks)
 }
 
-// The innermost construct but for loops ends, by the exception that was pending or without one. Where the task goes on is said already.
+// The innermost construct but for loops ends, by the exception that was pending or without one. Where the task goes on
+// is said already.
 fn end_construct(
     state: &mut State,
     alloc: Global,

@@ -29,8 +29,8 @@ use aud_select::selecting::open_set;
 use aud_state::state::State;
 use std::alloc::{AllocError, Global};
 
-/// The enabled moves, by their tasks' numbers in ascending order and then by their alternatives. None once the program has ended or
-/// its output is full.
+/// The enabled moves, by their tasks' numbers in ascending order and then by their alternatives. None once the program
+/// has ended or its output is full.
 ///
 /// # Errors
 ///
@@ -326,8 +326,8 @@ fn can_be_cancelled(state: &State, task: usize) -> bool
     }
 }
 
-// Whether its own next step is enabled: not where an action of another is in the way of a call, nor where others keep the master that
-// it leaves.
+// Whether its own next step is enabled: not where an action of another is in the way of a call, nor where others keep
+// the master that it leaves.
 fn can_act(state: &State, compiled: Compiled<'_>, task: usize) -> bool
     requires { task < length state.now.tasks }
     ensures { let plan = (plain_program compiled.entry.program.now).plan in

@@ -29,7 +29,8 @@ pub enum Turn {
 
 /// That of the task of this number, counted from 0.
 pub(crate) fn turn_of(state: &State, code: &SoundCode, n: usize) -> Turn
-    ensures { (plan : Plan) → turn_in plan code.now n state.now ≡ turned plan code.now n state.now result }
+    ensures { (plan : Plan)
+        → turn_in plan code.now n state.now ≡ turned plan code.now n state.now result }
 {
     if state.is_plain(n) {
         return Turn::Acting;

@@ -125,8 +125,8 @@ fn check_index(array: TaskArray, args: &[Expression], at: Pos, last: &Typed, fau
     }
 }
 
-// Notes where an array has these arguments before a point, of which the last is typed: that they are no index of it, or else that an element
-// stands there.
+// Notes where an array has these arguments before a point, of which the last is typed: that they are no index of it, or
+// else that an element stands there.
 fn check_element(array: Array, args: &[Expression], at: Pos, last: &Typed, faults: &mut Least)
     ensures { faults.new ≡ noted faults.old (element_faults (array_indexed array
         (plain_expressions args.now) at (plain_typed last.now)) at) }

@@ -37,8 +37,8 @@ impl Progress {
         self.store.set_value(value);
     }
 
-    /// The frame of a body is opened, with the values of its formals; it sees the frames of a display. These formals are copied back
-    /// at its end.
+    /// The frame of a body is opened, with the values of its formals; it sees the frames of a display. These formals
+    /// are copied back at its end.
     ///
     /// # Errors
     ///

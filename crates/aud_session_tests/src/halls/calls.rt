@@ -1,6 +1,6 @@
-// The calls of a hall as a text: `hall`, and for each seat whether its limits are `standard` or `large`; then a call a line, of which the
-// seat or the parcel comes first: `claim 1`, `submit 1 RUN 5`, `send 1`, `slice 0 9`, `check 0 1`, `collect 1 0`, `free 1`. In a request
-// `|` ends a line.
+// The calls of a hall as a text: `hall`, and for each seat whether its limits are `standard` or `large`; then a call a
+// line, of which the seat or the parcel comes first: `claim 1`, `submit 1 RUN 5`, `send 1`, `slice 0 9`, `check 0 1`,
+// `collect 1 0`, `free 1`. In a request `|` ends a line.
 
 use crate::repeated::TextFault;
 use aud_bench::request::Request;

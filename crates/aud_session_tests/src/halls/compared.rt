@@ -20,13 +20,13 @@ use std::alloc::Global;
 // What is said at the end of answers where memory was refused.
 const OUT_OF_MEMORY: &str = "- E90 out of memory\n";
 
-/// What a hall answers otherwise to a session of calls than is written, if anything, or an outbox that it leaves which is no front of the
-/// private server's answers.
+/// What a hall answers otherwise to a session of calls than is written, if anything, or an outbox that it leaves which
+/// is no front of the private server's answers.
 ///
 /// # Errors
 ///
-/// `Call` where a line is no call; `Memory` where memory is refused. If it is refused to the hall, what is answered up to there is looked
-/// at, and each outbox must be a front all the same, with at most one answer more that tells it.
+/// `Call` where a line is no call; `Memory` where memory is refused. If it is refused to the hall, what is answered up
+/// to there is looked at, and each outbox must be a front all the same, with at most one answer more that tells it.
 pub fn look_at(alloc: Global, session: &Session) -> Result<Option<String>, Fault> {
     let Calls { limits, events } = calls_of(alloc, session)?;
     let seats = limits.to_vec(alloc)?;
@@ -54,7 +54,8 @@ fn calls_of(alloc: Global, session: &Session) -> Result<Calls, Fault> {
     }
 }
 
-// The first reply that is not what must come next, or that there are too few; where memory was refused, up to the first that may tell it.
+// The first reply that is not what must come next, or that there are too few; where memory was refused, up to the first
+// that may tell it.
 fn other_reply(
     alloc: Global,
     session: &Session,
@@ -76,8 +77,8 @@ fn other_reply(
     Ok(Some(String::from_str(alloc, "no reply")?))
 }
 
-// Whether memory was refused in the call, if that may be so: a bench that closes stays where it is to be sent out, and a slice of one that
-// is out does less than it must.
+// Whether memory was refused in the call, if that may be so: a bench that closes stays where it is to be sent out, and
+// a slice of one that is out does less than it must.
 fn may_tell_memory(reply: &Reply) -> bool {
     match reply {
         Reply::Refused(HallFault::Memory) | Reply::Sent(false) => true,

@@ -1,4 +1,5 @@
-// Machines: the instructions that their steps take, and what they lend. The rest of what they do the sessions of `aud_session_tests` show.
+// Machines: the instructions that their steps take, and what they lend. The rest of what they do the sessions of
+// `aud_session_tests` show.
 
 use crate::tests::{finds, loaded};
 use aud_machine::machine::{Machine, Ran};

@@ -1,4 +1,5 @@
-// Code that is built by hand: it is sound, or an operand is missing, or other operands or open frames are written than stand there.
+// Code that is built by hand: it is sound, or an operand is missing, or other operands or open frames are written than
+// stand there.
 
 use aud_code::counts::{Counts, NOTHING};
 use aud_code::instruction::Instruction;

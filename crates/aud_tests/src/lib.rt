@@ -1,0 +1,5 @@
+// The tests of all crates.
+#![tactic(auto)]
+
+#[cfg(test)]
+mod tests;
