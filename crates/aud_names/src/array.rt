@@ -12,14 +12,14 @@ use aud_text::int32::Int32;
 use aud_typed::program::{ArrayAt, Subtype, Variable};
 
 /// What a declaration declares: the subtype, where that is known, and whether constants (RM 3.3.1(5)).
-#[derive(Clone, Copy, PartialEq, Eq)]
+#[derive(Clone, Copy)]
 pub struct Scalar {
     pub subtype: Option<Subtype>,
     pub constant: bool,
 }
 
 /// The bounds of arrays, and the subtype of their elements, where that is known (RM 3.6).
-#[derive(Clone, Copy, PartialEq, Eq)]
+#[derive(Clone, Copy)]
 pub struct Row {
     pub low: i32,
     pub high: i32,
@@ -27,7 +27,7 @@ pub struct Row {
 }
 
 /// The bounds of arrays of tasks, and the number of the tasks' type.
-#[derive(Clone, Copy, PartialEq, Eq)]
+#[derive(Clone, Copy)]
 pub struct TaskRow {
     pub low: i32,
     pub high: i32,
@@ -35,7 +35,7 @@ pub struct TaskRow {
 }
 
 /// What the names of a declaration are declared to be.
-#[derive(Clone, Copy, PartialEq, Eq)]
+#[derive(Clone, Copy)]
 pub enum Kind {
     /// Variables or constants.
     Scalar(Scalar),

@@ -26,7 +26,7 @@ pub struct AwaitedObject {
 }
 
 /// An operation or entry of a protected object whose body is still to come: the number of its unit, and where its name stands.
-#[derive(Clone, Copy, PartialEq, Eq)]
+#[derive(Clone, Copy)]
 pub struct AwaitedPart {
     pub unit: usize,
     pub at: Pos,

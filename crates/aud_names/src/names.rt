@@ -21,7 +21,7 @@ use std::alloc::{AllocError, Global};
 use std::marker::Model;
 
 /// What a visible name stands for (RM 8.3).
-#[derive(Clone, Copy, PartialEq, Eq)]
+#[derive(Clone, Copy)]
 pub enum Meaning {
     /// Integer, Natural, Positive or Boolean (RM 3.5.3, 3.5.4).
     ScalarType(Subtype),
@@ -48,7 +48,7 @@ pub enum Meaning {
 
 /// A variable, constant or component (RM 3.3.1, 9.4): its subtype, which is not known where its declaration is faulty, and
 /// whether it is a component in the body of one of its object's functions, which may not change it (RM 9.5.1(2)).
-#[derive(Clone, Copy, PartialEq, Eq)]
+#[derive(Clone, Copy)]
 pub struct Object {
     pub variable: Variable,
     pub subtype: Option<Subtype>,
@@ -58,7 +58,7 @@ pub struct Object {
 
 /// An array (RM 3.6): the cell of its first element, its bounds, and the subtype of its elements, which is not
 /// known where its declaration is faulty.
-#[derive(Clone, Copy, PartialEq, Eq)]
+#[derive(Clone, Copy)]
 pub struct Array {
     pub first: Variable,
     pub low: i32,
@@ -67,14 +67,14 @@ pub struct Array {
 }
 
 /// A task (RM 9.1): the cell with its number, and the number of its type.
-#[derive(Clone, Copy, PartialEq, Eq)]
+#[derive(Clone, Copy)]
 pub struct Task {
     pub variable: Variable,
     pub task_type: usize,
 }
 
 /// An array of tasks (RM 9.1, 3.6): the cell of its first element, its bounds, and the number of the tasks' type.
-#[derive(Clone, Copy, PartialEq, Eq)]
+#[derive(Clone, Copy)]
 pub struct TaskArray {
     pub first: Variable,
     pub low: i32,
@@ -83,7 +83,7 @@ pub struct TaskArray {
 }
 
 /// An entry, by its number, and whose it is (RM 9.5.2).
-#[derive(Clone, Copy, PartialEq, Eq)]
+#[derive(Clone, Copy)]
 pub struct Entry {
     pub number: usize,
     pub owner: Owner,
@@ -91,7 +91,7 @@ pub struct Entry {
 
 /// The task of an entry: the one behind whose name and a point it stands, or the one that runs the body where it stands
 /// by itself; or the protected object.
-#[derive(Clone, Copy, PartialEq, Eq)]
+#[derive(Clone, Copy)]
 pub enum Owner {
     /// The task with the number in this cell.
     Single(Variable),
@@ -102,7 +102,7 @@ pub enum Owner {
 
 /// From where an object is named: from outside its body, or from within, maybe in the body of one of its functions (RM
 /// 9.5(3, 4)).
-#[derive(Clone, Copy, PartialEq, Eq)]
+#[derive(Clone, Copy)]
 pub enum Access {
     Outside,
     Inside,
@@ -110,7 +110,7 @@ pub enum Access {
 }
 
 /// A protected object where it is named: the cell with its number, and the number of its declaration (RM 9.4).
-#[derive(Clone, Copy, PartialEq, Eq)]
+#[derive(Clone, Copy)]
 pub struct Instance {
     pub variable: Variable,
     pub object: usize,
@@ -118,14 +118,14 @@ pub struct Instance {
 }
 
 /// A procedure, or a function with the subtype of its value, which is not known where its declaration is faulty (RM 6.1).
-#[derive(Clone, Copy, PartialEq, Eq)]
+#[derive(Clone, Copy)]
 pub enum Subprogram {
     Procedure,
     Function(Option<Subtype>),
 }
 
 /// A procedure or function of a protected object, by the number of its unit (RM 9.4).
-#[derive(Clone, Copy, PartialEq, Eq)]
+#[derive(Clone, Copy)]
 pub struct Operation {
     pub unit: usize,
     pub subprogram: Subprogram,
@@ -133,7 +133,7 @@ pub struct Operation {
 }
 
 /// A formal parameter as calls see it (RM 6.1): its subtype is not known where its declaration is faulty.
-#[derive(Clone, Copy, PartialEq, Eq)]
+#[derive(Clone, Copy)]
 pub struct Parameter {
     pub mode: Mode,
     pub subtype: Option<Subtype>,
@@ -147,7 +147,7 @@ pub struct NamedParameter {
 }
 
 /// The procedures that put out texts (RM A.10).
-#[derive(Clone, Copy, PartialEq, Eq)]
+#[derive(Clone, Copy)]
 pub enum Builtin {
     Put,
     PutLine,

@@ -9,7 +9,7 @@ use aud_text::place::Pos;
 use aud_typed::program::Subtype;
 
 /// What an object declares by one name (RM 9.4(5, 6)).
-#[derive(Clone, Copy, PartialEq, Eq)]
+#[derive(Clone, Copy)]
 pub enum PartKind {
     /// An entry: its number, and that of the unit which is its body.
     Entry(usize, usize),
@@ -20,7 +20,7 @@ pub enum PartKind {
 }
 
 /// That, and whether it stands behind `private`.
-#[derive(Clone, Copy, PartialEq, Eq)]
+#[derive(Clone, Copy)]
 pub struct Part {
     pub is_private: bool,
     pub kind: PartKind,

@@ -22,7 +22,7 @@ const ADA: &[u8] = b"ADA";
 const TEXT_IO: &[u8] = b"TEXT_IO";
 
 /// What a name denotes, nothing where it is faulty, and where the identifier stands that decides.
-#[derive(Clone, Copy, PartialEq, Eq)]
+#[derive(Clone, Copy)]
 pub struct Denoted {
     pub meaning: Option<Meaning>,
     pub at: Pos,

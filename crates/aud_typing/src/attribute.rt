@@ -31,7 +31,7 @@ use aud_text::place::Pos;
 use aud_typed::program::{BooleanExpression, IntegerExpression, Subtype, TaskName, TextExpression};
 
 /// An attribute of the language.
-#[derive(Clone, Copy, PartialEq, Eq)]
+#[derive(Clone, Copy)]
 pub enum Attribute {
     Image,
     First,

@@ -59,7 +59,7 @@ impl Operand {
 }
 
 /// An operator on two operands (RM 4.5).
-#[derive(Clone, Copy, PartialEq, Eq)]
+#[derive(Clone, Copy)]
 pub enum Operator {
     Arithmetic(Binary),
     Join,
