@@ -1,6 +1,7 @@
 """A library that stands before the C library of a program: one of its growths, reads or writes fails, or a read gives few bytes.
 
-A growth is a call that asks for memory, a read one of standard input, a write one of standard output. They are counted from 1.
+A growth is a call that asks for memory, a read one of standard input, a write one of standard output. They are counted from 1,
+those of all threads together.
 """
 import os
 import subprocess
@@ -31,7 +32,7 @@ __attribute__((destructor)) static void end(void) {
 /* (a program may end without a destructor) */
 void _exit(int status) { end(); syscall(SYS_exit_group, status); __builtin_unreachable(); }
 void _Exit(int status) { _exit(status); }
-static int refused(void) { if (++growths != growth) return 0; errno = ENOMEM; return 1; }
+static int refused(void) { if (__sync_add_and_fetch(&growths, 1) != growth) return 0; errno = ENOMEM; return 1; }
 
 void *malloc(size_t size) { return refused() ? NULL : __libc_malloc(size); }
 void *calloc(size_t count, size_t size) { return refused() ? NULL : __libc_calloc(count, size); }

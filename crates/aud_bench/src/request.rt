@@ -19,7 +19,6 @@ use aud_text::text::Text;
 use std::alloc::{AllocError, Global};
 
 /// What a user asks.
-#[derive(Drop)]
 pub enum Request {
     /// Take this source text: its lines, each followed by a line feed.
     Load(Text),
@@ -45,6 +44,26 @@ pub enum Request {
     Quit,
     /// A malformed request.
     Bad(BadRequest),
+}
+
+// One call wherever it is dropped.
+impl Drop for Request {
+    fn drop(self) {
+        match self {
+            Request::Load(source) => drop(source),
+            Request::Choose(choices) => drop(choices),
+            Request::Reset
+            | Request::Run(_)
+            | Request::Step(_)
+            | Request::Advance(_)
+            | Request::Clock
+            | Request::List(_)
+            | Request::Output
+            | Request::Seat(_)
+            | Request::Quit
+            | Request::Bad(_) => {}
+        }
+    }
 }
 
 impl Request {
@@ -189,7 +208,6 @@ fn clone_if(alloc: Global, raised: &Option<Raised>) -> Result<Option<Raised>, Al
 }
 
 /// What a user is answered.
-#[derive(Drop)]
 pub enum Answer {
     /// The program of this name is loaded.
     Loaded(Name),
@@ -206,6 +224,23 @@ pub enum Answer {
     Refused(Refusal),
     /// A fault of the source text, and where it stands.
     RefusedAt(Refusal, Pos),
+}
+
+// One call wherever it is dropped.
+impl Drop for Answer {
+    fn drop(self) {
+        match self {
+            Answer::Loaded(name) => drop(name),
+            Answer::Ran(report) => drop(report),
+            Answer::Listed(lines) => drop(lines),
+            Answer::Output(text) => drop(text),
+            Answer::Choices(_)
+            | Answer::Clock(_)
+            | Answer::Done
+            | Answer::Refused(_)
+            | Answer::RefusedAt(_, _) => {}
+        }
+    }
 }
 
 impl Answer {

@@ -4,3 +4,4 @@ pub mod Passes
 pub mod Fitting
 pub mod Looks
 pub mod Shared
+pub mod Working

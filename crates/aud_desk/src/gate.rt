@@ -1,6 +1,6 @@
 // The gate, through which every slice of a worker goes.
 
-ghost use Rattle.std.specs.Prelude.{◌≡◌, ◌≤◌};
+ghost use Rattle.std.specs.Prelude.{◌≡◌, ◌≤◌, false};
 ghost use Rattle.aud_bench.specs.Seen.{unanswered};
 ghost use Rattle.aud_hall.specs.Slices.{done, sliced};
 ghost use Rattle.aud_hall.specs.Ties.Said.{cut_in};
@@ -35,9 +35,12 @@ impl Gate for Direct {
     }
 }
 
-/// Does slices of a parcel until no request is left, or nothing is done.
+/// Does slices of a parcel until all its requests are answered, or memory is refused, which closes its bench.
 pub fn work_off<G: Gate>(alloc: Global, gate: &G, parcel: &mut Parcel)
-    ensures { parcel.new.seat ≡ parcel.old.seat }
+    ensures seat { parcel.new.seat ≡ parcel.old.seat }
+    ensures given { (parcel.new.bench.limits ≡ parcel.old.bench.limits)
+        × (parcel.new.bench.journal ≡ parcel.old.bench.journal) }
+    ensures answered { parcel.new.bench.spent ≡ false → unanswered parcel.new.bench ≡ 0 }
 {
     loop {
         let work = gate.slice(alloc, parcel, SLICE);
