@@ -31,7 +31,8 @@ use Rattle.aud_check_bodies.specs.Regions as regions
 use Rattle.aud_check_bodies.specs.Statements as s
 use Rattle.aud_check_bodies.specs.Statements.{Around, nothing_around, task_around}
 use Rattle.aud_check_bodies.proofs.Scoping.Declarations.{elaborated}
-use Rattle.aud_check_bodies.proofs.Scoping.Tables.{Grows, declared_tables, entries_units}
+use Rattle.aud_check_bodies.proofs.Scoping.Tables.{Grows, declared_tables}
+use Rattle.aud_check_bodies.proofs.Scoping.EntryTables.{entries_units}
 
 -- what is elaborated behind the declarations of a body
 abbrev pub behind : Outcome d.Declared → Scope → Scope

@@ -44,7 +44,9 @@ use Rattle.aud_check_bodies.proofs.Scoping.Expressions.{initial_scoped, conditio
 use Rattle.aud_check_bodies.proofs.Scoping.Declarations.{elaborated, InBody, body_regions, RegionScoped, symbol_scoped}
 use Rattle.aud_check_bodies.proofs.Scoping.Alike.{with_new, OfObject, of_object_append, nat_eq_self, own_frame, its_frame, parts_append, parts_level, parts_entries, parts_parts}
 use Rattle.aud_check_bodies.proofs.Scoping.Operations.{OperationIs, EntryIs, PartIs, PartsAre, parts_are_append, part_grown, parts_grown, parts_there, parts_added}
-use Rattle.aud_check_bodies.proofs.Scoping.Tables.{Grows, same, further, unit_grows, protected_entry_grows, operation_grows, operations_grow, items_grow, InPlan, first_in_plan, seen}
+use Rattle.aud_check_bodies.proofs.Scoping.Tables.{Grows, same, further, unit_grows, protected_entry_grows}
+use Rattle.aud_check_bodies.proofs.Scoping.ObjectTables.{operation_grows, operations_grow, items_grow}
+use Rattle.aud_check_bodies.proofs.Scoping.Plans.{InPlan, first_in_plan, seen}
 use Rattle.aud_check_bodies.proofs.Scoping.Entries.{of_operation, operation_profile, in_operations, in_items, operation_counted, Ready, second_ready}
 use Rattle.aud_check_bodies.proofs.Scoping.Units.{unit_at, Stay, IsUnit, IsUnitOf, EachIs, awaited_append, unit_of_append, unit_of_behind, is_before, Barred, barred_push, barred_put, body_grown}
 

@@ -27,7 +27,8 @@ use Rattle.aud_names.specs.Objects.{own_instance, with_part, with_parts}
 use Rattle.aud_check_bodies.specs.Tables.{Tables, entry_at}
 use Rattle.aud_check_bodies.proofs.Scoping.Names.{Known, when, IsOperation, IsEntryBody, Reached, PartScoped, PartsThere, MeaningScoped, SymbolsScoped, RegionsScoped, either, regions_more, around_open, open_further}
 use Rattle.aud_check_bodies.proofs.Scoping.Alike.{with_new, parts_level, parts_entries, parts_parts, part_level, part_more, parts_more}
-use Rattle.aud_check_bodies.proofs.Scoping.Tables.{Grows, seen}
+use Rattle.aud_check_bodies.proofs.Scoping.Tables.{Grows}
+use Rattle.aud_check_bodies.proofs.Scoping.Plans.{seen}
 
 pub nat_eq_true : (n m : ℕ) → nat_eq n m ≡ true → m ≡ n
 nat_eq_true n m h = sym (eqb-true n m h)

@@ -14,10 +14,11 @@ use Rattle.aud_check_bodies.specs.Programs as c
 use Rattle.aud_check_bodies.specs.Programs.{main_tables}
 use Rattle.aud_check_bodies.proofs.Scoping.Names.{IsCallable, when}
 use Rattle.aud_check_bodies.proofs.Scoping.Declarations.{InBody, both_none, in_main}
-use Rattle.aud_check_bodies.proofs.Scoping.Tables.{InPlan, entered_grows, seen}
+use Rattle.aud_check_bodies.proofs.Scoping.ConstructTables.{entered_grows}
+use Rattle.aud_check_bodies.proofs.Scoping.Plans.{InPlan, seen}
 use Rattle.aud_check_bodies.proofs.Scoping.Entries.{Ready, in_entered, entered_counted}
 use Rattle.aud_check_bodies.proofs.Scoping.Units.{unit_at, IsUnit}
-use Rattle.aud_check_bodies.proofs.Scoping.Statements.{entered_scoped}
+use Rattle.aud_check_bodies.proofs.Scoping.AllConstructs.{entered_scoped}
 
 -- each of a list, by its number
 units_from : (plan : Plan) (entries : List Entry) (us : List tree.UnitBody) (es : List Entry) → length us ≡ length es

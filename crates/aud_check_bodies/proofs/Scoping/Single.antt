@@ -50,7 +50,7 @@ use Rattle.aud_check_bodies.specs.Statements.{Around, nothing_around, task_aroun
 use Rattle.aud_check_bodies.proofs.Scoping.Names.{Known, IsCallable, VisibleScoped, Sees, Fits, regions_see, resolved_scoped}
 use Rattle.aud_check_bodies.proofs.Scoping.Expressions.{denoting_scoped, expression_scoped, arguments_scoped, prefix_scoped}
 use Rattle.aud_check_bodies.proofs.Scoping.Arguments.{reference_scoped, all_passed_scoped}
-use Rattle.aud_check_bodies.proofs.Scoping.Tables.{seen}
+use Rattle.aud_check_bodies.proofs.Scoping.Plans.{seen}
 
 -- a statement, which elaborates nothing
 abbrev pub IsStatement : Known → Scope → tree.Statement → Type 0

@@ -22,7 +22,8 @@ use Rattle.aud_check_bodies.proofs.Scoping.Names.{Fits, either, fits_later}
 use Rattle.aud_check_bodies.proofs.Scoping.Declarations.{InBody, Waiting, no_waiting, waits_in, both_none, body_later}
 use Rattle.aud_check_bodies.proofs.Scoping.Alike.{OfOthers, OfObject, own_frame, frame_stays, frame_begins, later_are_others}
 use Rattle.aud_check_bodies.proofs.Scoping.Operations.{PartsAre, parts_are_append, parts_grown, nat_eq_true}
-use Rattle.aud_check_bodies.proofs.Scoping.Tables.{Grows, is_equal, seen}
+use Rattle.aud_check_bodies.proofs.Scoping.Tables.{Grows, is_equal}
+use Rattle.aud_check_bodies.proofs.Scoping.Plans.{seen}
 use Rattle.aud_check_bodies.proofs.Scoping.Entries.{of_task}
 
 abbrev pub unit_at : ℕ → Tables → tree.UnitBody
