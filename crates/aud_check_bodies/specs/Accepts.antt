@@ -1,5 +1,5 @@
 -- Accepts: which entry is accepted, and whether it may be accepted there (RM 9.5.2).
-use Rattle.std.specs.Prelude.{ℕ, nat_eq, Bool, not, ◌&&◌, List, [], ◌∷◌, ◌++◌, Option, Some, None}
+use Rattle.std.specs.Prelude.{ℕ, nat_eq, Bool, not, ◌&&◌, List, ◌∷◌, ◌++◌, Option, Some, None}
 use Rattle.std.specs.List.{list_any}
 use Rattle.aud_text.specs.declared.place.Pos.{Pos}
 use Rattle.aud_syntax.specs.declared.tree.Ident.{Ident}

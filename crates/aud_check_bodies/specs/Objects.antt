@@ -2,7 +2,7 @@
 use Rattle.std.specs.Prelude.{ℕ, Bool, true, false, List, [], ◌∷◌, ◌++◌, map, Option, Some, None, if◌then◌else◌}
 use Rattle.aud_text.specs.declared.place.Pos.{Pos}
 use Rattle.aud_syntax.specs.declared.tree.Ident.{Ident}
-use Rattle.aud_syntax.specs.Plain.{MaybeExpression, Formal, EntryDeclaration, Operation, entry_operation, procedure_operation, function_operation, PrivateItem, private_operation, components}
+use Rattle.aud_syntax.specs.Plain.{MaybeExpression, Formal, Operation, entry_operation, procedure_operation, function_operation, PrivateItem, private_operation, components}
 use Rattle.aud_typed.specs.declared.program.Subtype.{Subtype}
 use Rattle.aud_typed.specs.Tree as tree
 use Rattle.aud_fault.specs.declared.fault.Fault.{Fault}

@@ -12,7 +12,7 @@ use Rattle.aud_names.specs.declared.names.Subprogram.{Subprogram}
 use Rattle.aud_names.specs.declared.names.Subprogram.TheVariants.{Function}
 use Rattle.aud_names.specs.declared.rules.Base.{Base}
 use Rattle.aud_names.specs.Names.{Place}
-use Rattle.aud_names.specs.Resolution.{Resolved, resolved, name_ident, last_args, is_value}
+use Rattle.aud_names.specs.Resolution.{resolved, name_ident, last_args, is_value}
 use Rattle.aud_names.specs.Rules.{base_asked, right_type}
 use Rattle.aud_typing.specs.Expressions.{Entity, checked_arguments, checked_expression, expression_at}
 use Rattle.aud_check_bodies.specs.Tables.{Tables, profile_of}

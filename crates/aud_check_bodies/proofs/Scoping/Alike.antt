@@ -1,8 +1,8 @@
 -- What an object's frame has does not tell from where its parts are named.
-use Rattle.std.specs.Prelude.{map, nat_eq, if◌then◌else◌}
+use Rattle.std.specs.Prelude.{nat_eq, if◌then◌else◌}
 use Rattle.std.specs.List.{AllByRecursion}
 use Rattle.std.specs.Str.{bytes_eq}
-use Rattle.std.proofs.Common.{◌≡◌, ℕ, ◌+◌, ◌<◌, ◌≤◌, Bool, true, false, List, [], ◌∷◌, ◌++◌, Option, Some, None, is_some, arith, refl, sym, ◌∙◌, ap, subst}
+use Rattle.std.proofs.Common.{◌≡◌, ℕ, ◌+◌, ◌<◌, ◌≤◌, Bool, true, false, List, [], ◌∷◌, ◌++◌, Some, is_some, arith, refl, sym, ◌∙◌, ap, subst}
 use Rattle.std.proofs.lemmas.Bool.{eq-eqb, ne_eqb}
 use Rattle.aud_names.specs.declared.names.Access.{Access}
 use Rattle.aud_names.specs.declared.names.Access.TheVariants.{Outside}
@@ -10,8 +10,6 @@ use Rattle.aud_names.specs.declared.names.Instance.{Instance}
 use Rattle.aud_names.specs.declared.names.Meaning.{Meaning}
 use Rattle.aud_names.specs.declared.parts.ObjectPart.{ObjectPart}
 use Rattle.aud_names.specs.declared.parts.PartKind.{PartKind}
-use Rattle.aud_names.specs.declared.parts.PartKind.TheVariants as part
-use Rattle.aud_typed.specs.declared.program.Variable.{Variable}
 use Rattle.aud_typed.specs.Why.Scoped.{Elaborated}
 use Rattle.aud_names.specs.Names as names
 use Rattle.aud_names.specs.Names.{Symbol, Region}

@@ -1,5 +1,5 @@
 -- What names stand for is elaborated, or there.
-use Rattle.std.specs.Prelude.{IfSome, nat_eq, ◌&&◌, ◌||◌, not}
+use Rattle.std.specs.Prelude.{IfSome, nat_eq, ◌&&◌}
 use Rattle.std.specs.List.{All, AllByRecursion}
 use Rattle.std.specs.Str.{bytes_eq}
 use Rattle.std.proofs.Common.{◌≡◌, ℕ, zero, suc, ◌+◌, ◌<◌, ◌≤◌, Bool, true, false, List, [], ◌∷◌, ◌++◌, length, slice_index_or, Option, Some, None, if◌then◌else◌, arith, ap, sym, refl, subst, ◌∙◌}

@@ -1,27 +1,22 @@
 -- What protected objects declare, and the frames of their bodies.
 use Rattle.std.specs.Prelude.{IfSome, map, nat_eq, if◌then◌else◌}
-use Rattle.std.specs.List.{AllByRecursion}
 use Rattle.std.specs.Str.{bytes_eq}
 use Rattle.std.proofs.Common.{◌≡◌, ◌⊎◌, inl, inr, ◌&&◌, is_some, ℕ, suc, ◌+◌, ◌<◌, ◌≤◌, Bool, true, false, List, [], ◌∷◌, ◌++◌, length, slice_index_or, Option, Some, None, arith, refl, sym, ◌∙◌, ap, subst}
 use Rattle.std.proofs.lemmas.List.{length-append, length-map, length_push, get_or_push, get_or_append_left}
 use Rattle.std.proofs.lemmas.List.Elements.{All-from_recursion, All-nil, All-push}
-use Rattle.aud_text.specs.declared.place.Pos.{Pos}
 use Rattle.aud_syntax.specs.declared.tree.Ident.{Ident}
 use Rattle.aud_syntax.specs.Plain as plain
 use Rattle.aud_typed.specs.declared.program.Subtype.{Subtype}
 use Rattle.aud_typed.specs.Tree as tree
 use Rattle.aud_typed.specs.Tree.{Plan}
-use Rattle.aud_typed.specs.Why.Scoped.{Elaborated, Scope, none_yet, cells_at, Entry, entry_of, declared_with, own_number, ComponentsScoped, ValueScoped, BooleanScoped, no_entry_plan}
-use Rattle.aud_names.specs.declared.awaited.AwaitedObject.{AwaitedObject}
+use Rattle.aud_typed.specs.Why.Scoped.{Elaborated, Scope, none_yet, cells_at, Entry, entry_of, declared_with, own_number, ComponentsScoped, ValueScoped, BooleanScoped}
 use Rattle.aud_names.specs.declared.awaited.AwaitedPart.{AwaitedPart}
 use Rattle.aud_names.specs.declared.names.Access.{Access}
-use Rattle.aud_names.specs.declared.names.Access.TheVariants.{Outside, Inside, InFunction}
+use Rattle.aud_names.specs.declared.names.Access.TheVariants.{Outside}
 use Rattle.aud_names.specs.declared.names.Instance.{Instance}
-use Rattle.aud_names.specs.declared.names.Meaning.{Meaning}
 use Rattle.aud_names.specs.declared.names.Meaning.TheVariants as meaning
 use Rattle.aud_names.specs.declared.names.NamedParameter.{NamedParameter}
 use Rattle.aud_names.specs.declared.names.Subprogram.TheVariants.{Procedure, Function}
-use Rattle.aud_names.specs.declared.array.Kind.TheVariants.{Protected}
 use Rattle.aud_names.specs.declared.parts.ObjectPart.{ObjectPart}
 use Rattle.aud_names.specs.declared.parts.PartKind.{PartKind}
 use Rattle.aud_names.specs.declared.parts.PartKind.TheVariants as part
@@ -29,7 +24,7 @@ use Rattle.aud_names.specs.Names as names
 use Rattle.aud_names.specs.Names.{Symbol, Region, Place}
 use Rattle.aud_names.specs.Objects as named
 use Rattle.aud_names.specs.Objects.{own_instance, with_part, with_parts, awaits, awaited_parts}
-use Rattle.aud_check_bodies.specs.Tables.{Tables, no_body, unit_kept, entry_at, protected_entry, protected_entry_kept}
+use Rattle.aud_check_bodies.specs.Tables.{Tables, no_body, unit_kept, protected_entry, protected_entry_kept}
 use Rattle.aud_check_bodies.specs.Declarations as d
 use Rattle.aud_fault.specs.declared.fault.Fault.{Fault}
 use Rattle.aud_names.specs.Rules as rules
@@ -39,16 +34,16 @@ use Rattle.aud_check_bodies.specs.Operations as operations
 use Rattle.aud_check_bodies.specs.Operations.{Head, of_entry, of_procedure, of_function}
 use Rattle.aud_check_bodies.specs.Objects as objects
 use Rattle.aud_check_bodies.specs.Objects.{ObjectDeclared}
-use Rattle.aud_check_bodies.proofs.Scoping.Names.{Known, when, EntriesThere, PartsThere, Reached, MeaningScoped, SymbolsScoped, RegionsScoped, Fits, Sees, either, regions_more, regions_see, open_further, around_open}
+use Rattle.aud_check_bodies.proofs.Scoping.Names.{Known, when, EntriesThere, PartsThere, Reached, MeaningScoped, SymbolsScoped, RegionsScoped, Fits, Sees, either, regions_more, regions_see, open_further}
 use Rattle.aud_check_bodies.proofs.Scoping.Expressions.{initial_scoped, condition_scoped}
-use Rattle.aud_check_bodies.proofs.Scoping.Declarations.{elaborated, InBody, body_regions, RegionScoped, symbol_scoped}
+use Rattle.aud_check_bodies.proofs.Scoping.Declarations.{elaborated, InBody, body_regions}
 use Rattle.aud_check_bodies.proofs.Scoping.Alike.{with_new, OfObject, of_object_append, nat_eq_self, own_frame, its_frame, parts_append, parts_level, parts_entries, parts_parts}
-use Rattle.aud_check_bodies.proofs.Scoping.Operations.{OperationIs, EntryIs, PartIs, PartsAre, parts_are_append, part_grown, parts_grown, parts_there, parts_added}
+use Rattle.aud_check_bodies.proofs.Scoping.Operations.{OperationIs, EntryIs, PartIs, PartsAre, parts_are_append, parts_grown, parts_there, parts_added}
 use Rattle.aud_check_bodies.proofs.Scoping.Tables.{Grows, same, further, unit_grows, protected_entry_grows}
 use Rattle.aud_check_bodies.proofs.Scoping.ObjectTables.{operation_grows, operations_grow, items_grow}
 use Rattle.aud_check_bodies.proofs.Scoping.Plans.{InPlan, first_in_plan, seen}
 use Rattle.aud_check_bodies.proofs.Scoping.Entries.{of_operation, operation_profile, in_operations, in_items, operation_counted, Ready, second_ready}
-use Rattle.aud_check_bodies.proofs.Scoping.Units.{unit_at, Stay, IsUnit, IsUnitOf, EachIs, awaited_append, unit_of_append, unit_of_behind, is_before, Barred, barred_push, barred_put, body_grown}
+use Rattle.aud_check_bodies.proofs.Scoping.Units.{Stay, IsUnit, IsUnitOf, EachIs, awaited_append, unit_of_append, unit_of_behind, is_before, Barred, barred_push, barred_put, body_grown}
 
 -- Values of components, each of which sees those before it.
 

@@ -1,21 +1,16 @@
 -- Operations and entries of protected objects are entered where the frames around their object are open, and that of the object.
 use Rattle.std.specs.Prelude.{IfSome, nat_eq, ◌&&◌, if◌then◌else◌}
-use Rattle.std.specs.List.{All, AllByRecursion}
+use Rattle.std.specs.List.{AllByRecursion}
 use Rattle.std.specs.Str.{bytes_eq}
-use Rattle.std.proofs.Common.{◌≡◌, ℕ, ◌+◌, ◌<◌, ◌≤◌, Bool, true, false, List, [], ◌∷◌, ◌++◌, length, slice_index_or, Option, Some, None, arith, refl, sym, ◌∙◌, ap, subst}
+use Rattle.std.proofs.Common.{◌≡◌, ℕ, ◌+◌, ◌<◌, ◌≤◌, Bool, true, false, List, [], ◌∷◌, ◌++◌, length, slice_index_or, Some, arith, refl, sym, ◌∙◌, ap, subst}
 use Rattle.std.proofs.lemmas.Bool.{eqb-true}
-use Rattle.std.proofs.lemmas.List.{get_or_append_left, get_or_push, length-append, length_push}
-use Rattle.std.proofs.lemmas.List.Elements.{All-from_recursion, All-nil, All-push}
-use Rattle.aud_typed.specs.declared.program.Variable.{Variable}
+use Rattle.std.proofs.lemmas.List.{get_or_append_left, get_or_push, length-append}
+use Rattle.std.proofs.lemmas.List.Elements.{All-push}
 use Rattle.aud_typed.specs.Tree as tree
 use Rattle.aud_typed.specs.Tree.{Plan}
-use Rattle.aud_typed.specs.Why.Scoped.{Elaborated, Scope, none_yet, cells_at, IsElaborated, AreAround, Entry, entry_of, entry_unit}
+use Rattle.aud_typed.specs.Why.Scoped.{Elaborated, Scope, none_yet, cells_at, AreAround, Entry, entry_of, entry_unit}
 use Rattle.aud_names.specs.declared.names.Access.{Access}
-use Rattle.aud_names.specs.declared.names.Access.TheVariants.{Outside, Inside, InFunction}
 use Rattle.aud_names.specs.declared.names.Instance.{Instance}
-use Rattle.aud_names.specs.declared.names.Meaning.{Meaning}
-use Rattle.aud_names.specs.declared.names.Meaning.TheVariants as meaning
-use Rattle.aud_names.specs.declared.names.NamedParameter.{NamedParameter}
 use Rattle.aud_names.specs.declared.parts.ObjectPart.{ObjectPart}
 use Rattle.aud_names.specs.declared.parts.Part.{Part}
 use Rattle.aud_names.specs.declared.parts.PartKind.{PartKind}
@@ -25,8 +20,8 @@ use Rattle.aud_names.specs.Names.{Symbol, Region, Place}
 use Rattle.aud_names.specs.Objects as objects
 use Rattle.aud_names.specs.Objects.{own_instance, with_part, with_parts}
 use Rattle.aud_check_bodies.specs.Tables.{Tables, entry_at}
-use Rattle.aud_check_bodies.proofs.Scoping.Names.{Known, when, IsOperation, IsEntryBody, Reached, PartScoped, PartsThere, MeaningScoped, SymbolsScoped, RegionsScoped, either, regions_more, around_open, open_further}
-use Rattle.aud_check_bodies.proofs.Scoping.Alike.{with_new, parts_level, parts_entries, parts_parts, part_level, part_more, parts_more}
+use Rattle.aud_check_bodies.proofs.Scoping.Names.{when, IsOperation, IsEntryBody, Reached, PartScoped, PartsThere, MeaningScoped, SymbolsScoped, either}
+use Rattle.aud_check_bodies.proofs.Scoping.Alike.{with_new, part_level, parts_more}
 use Rattle.aud_check_bodies.proofs.Scoping.Tables.{Grows}
 use Rattle.aud_check_bodies.proofs.Scoping.Plans.{seen}
 

@@ -11,7 +11,7 @@ use Rattle.aud_typed.specs.declared.program.Subtype.{Subtype}
 use Rattle.aud_typed.specs.declared.program.Exception as exception
 use Rattle.aud_typed.specs.Tree as tree
 use Rattle.aud_typed.specs.Tree.{Plan}
-use Rattle.aud_typed.specs.Why.Scoped.{Scope, IsElaborated, AreElaborated, IntegerScoped, ReferenceScoped, BooleanScoped, TaskScoped, CalleeScoped, IntoScoped, BodyAround, DelayScoped, FormScoped, scope_after, AllThere, ArgumentsScoped, StatementScoped, PartScoped, HandlersScoped, DoingScoped, AlternativesScoped}
+use Rattle.aud_typed.specs.Why.Scoped.{Scope, IsElaborated, AreElaborated, IntegerScoped, ReferenceScoped, BooleanScoped, CalleeScoped, IntoScoped, BodyAround, DelayScoped, FormScoped, scope_after, AllThere, ArgumentsScoped, StatementScoped, PartScoped, HandlersScoped, DoingScoped, AlternativesScoped}
 use Rattle.aud_names.specs.declared.names.Meaning.{Meaning}
 use Rattle.aud_names.specs.declared.names.Meaning.TheVariants.{Object, Exception, Builtin}
 use Rattle.aud_names.specs.declared.names.Entry as named_entry
