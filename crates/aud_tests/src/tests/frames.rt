@@ -6,7 +6,7 @@ use aud_store::store::Store;
 use aud_text::int32::Int32;
 use aud_text::place::Pos;
 use std::alloc::{AllocError, Global};
-use std::test::Fail;
+use std::process::Abort;
 
 const AT: Pos = Pos { line: 1, col: 1 };
 
@@ -18,19 +18,21 @@ fn give_back(alloc: Global, store: &mut Store) -> Result<(), AllocError> {
     let mut named = Vec::new(alloc);
     let mut stack = Stack::new(alloc);
     store.exchange(&mut stack);
-    stack.names(&mut named)?;
+    let told = stack.names(&mut named);
     store.exchange(&mut stack);
+    drop(stack);
+    told?;
     store.forget(&mut named);
     Ok(())
 }
 
-// Opens and leaves them; the greatest of their keys.
-fn greatest_key(alloc: Global, store: &mut Store) -> Result<usize, Fail> {
+// Opens and leaves them; the greatest of their keys. One that lacks its key fails the test as refused memory does.
+fn greatest_key(alloc: Global, store: &mut Store) -> Result<usize, AllocError> {
     store.enter(alloc, Purpose::Body, &[], 0, AT, &[Int32::new(1)], 1)?;
     let mut greatest = 0;
     for _ in 0..FRAMES {
         let frame = store.enter(alloc, Purpose::Block, &[], 1, AT, &[Int32::new(2)], 1)?;
-        greatest = greatest.max(store.key(frame).ok_or("no key")?);
+        greatest = greatest.max(store.key(frame).ok_or(AllocError)?);
         store.leave();
         if store.is_due() {
             give_back(alloc, store)?;
@@ -40,13 +42,18 @@ fn greatest_key(alloc: Global, store: &mut Store) -> Result<usize, Fail> {
 }
 
 #[test]
-fn gives_keys_out_again(rt: HostRuntime) -> Result<(), Fail> {
+fn gives_keys_out_again(rt: HostRuntime) -> Result<(), AllocError> {
     let mut store = Store::new(rt.alloc());
-    let greatest = greatest_key(rt.alloc(), &mut store)?;
+    let greatest = greatest_key(rt.alloc(), &mut store);
+    keeps_frames(&rt, &store);
+    drop(store);
+    // Keys are numbered from 0.
+    assert!(rt; greatest? < FRAMES - 1);
+    Ok(())
+}
+
+fn keeps_frames(rt: &impl Abort, store: &Store) {
     assert!(rt; store.frames().len() == 1 + FRAMES);
     assert!(rt; store.key(1).is_none() && store.key(FRAMES).is_some());
     assert!(rt; store.innermost_cell(0).get() == 1);
-    // Keys are numbered from 0.
-    assert!(rt; greatest < FRAMES - 1);
-    Ok(())
 }

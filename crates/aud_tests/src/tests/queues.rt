@@ -7,7 +7,7 @@ use aud_state::calls::NewCall;
 use aud_state::state::State;
 use aud_text::place::Pos;
 use std::alloc::{AllocError, Global};
-use std::test::Fail;
+use std::process::Abort;
 
 const IDLE: &[u8] = b"procedure M is begin null; end M;\n";
 
@@ -40,23 +40,31 @@ const ROWS: [(Act, Option<usize>); 7] = [
 // So many are made and cancelled before some are given back.
 const CANCELLED: usize = 300;
 
-fn opened(alloc: Global) -> Result<State, Fail> {
+fn opened(alloc: Global) -> Result<State, AllocError> {
     let program = loaded(alloc, IDLE)?;
     let code = generate(alloc, &program)?;
     let program = program.into_program();
-    Ok(State::new(alloc, &code, &program.units, &program.name)?)
+    let state = State::new(alloc, &code, &program.units, &program.name);
+    drop(code);
+    drop(program);
+    state
 }
 
 #[test]
-fn the_oldest_call_comes_first(rt: HostRuntime) -> Result<(), Fail> {
-    let alloc = rt.alloc();
-    let mut state = opened(alloc)?;
+fn the_oldest_call_comes_first(rt: HostRuntime) -> Result<(), AllocError> {
+    let mut state = opened(rt.alloc())?;
+    let met = each_row(&rt, rt.alloc(), &mut state);
+    drop(state);
+    met
+}
+
+fn each_row(rt: &impl Abort, alloc: Global, state: &mut State) -> Result<(), AllocError> {
     for number in 0..CALLS {
         let id = state.make_call(call_of(alloc, number))?;
         assert!(rt; id == number);
     }
     for (act, oldest) in ROWS {
-        does(&mut state, act)?;
+        does(state, act)?;
         assert!(rt; state.first_queued(OWNER, ENTRY) == oldest);
         assert!(rt; state.first_queued(OWNER, ENTRY + 1).is_none());
     }
@@ -64,9 +72,14 @@ fn the_oldest_call_comes_first(rt: HostRuntime) -> Result<(), Fail> {
 }
 
 #[test]
-fn calls_that_are_over_are_given_back(rt: HostRuntime) -> Result<(), Fail> {
-    let alloc = rt.alloc();
-    let mut state = opened(alloc)?;
+fn calls_that_are_over_are_given_back(rt: HostRuntime) -> Result<(), AllocError> {
+    let mut state = opened(rt.alloc())?;
+    let met = gives_back(&rt, rt.alloc(), &mut state);
+    drop(state);
+    met
+}
+
+fn gives_back(rt: &impl Abort, alloc: Global, state: &mut State) -> Result<(), AllocError> {
     for number in 0..CANCELLED {
         let id = state.make_call(call_of(alloc, number))?;
         state.cancel_call(id);
@@ -82,7 +95,7 @@ fn calls_that_are_over_are_given_back(rt: HostRuntime) -> Result<(), Fail> {
 
 fn does(state: &mut State, act: Act) -> Result<(), AllocError> {
     match act {
-        Act::Arrive(id) => state.arrive(id)?,
+        Act::Arrive(id) => return state.arrive(id),
         Act::Select(id) => state.select_call(id),
         Act::Cancel(id) => state.cancel_call(id),
     }

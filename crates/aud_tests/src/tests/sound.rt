@@ -12,7 +12,7 @@ use std::alloc::{AllocError, Global};
 
 const AT: Pos = Pos { line: 1, col: 1 };
 
-fn line(last: Last, out: usize, within: Option<usize>) -> Line {
+fn end(last: Last, out: usize, within: Option<usize>) -> Line {
     Line::End(EndLine {
         last,
         at: AT,
@@ -21,46 +21,58 @@ fn line(last: Last, out: usize, within: Option<usize>) -> Line {
     })
 }
 
-// The code of one body, with these tables.
-fn is_sound(
-    alloc: Global,
-    lines: Vec<Line>,
-    operands: Vec<Counts>,
-    seen: Vec<usize>,
-) -> Result<bool, AllocError> {
-    is_sound_with(alloc, lines, operands, seen, Vec::new(alloc))
-}
-
-// The same with these barriers.
-fn is_sound_with(
-    alloc: Global,
-    lines: Vec<Line>,
-    operands: Vec<Counts>,
-    seen: Vec<usize>,
-    barriers: Vec<Barrier>,
-) -> Result<bool, AllocError> {
-    let code = Code {
-        lines,
-        operands,
-        seen,
+// Without a line. The only body begins at the first one.
+fn empty(alloc: Global) -> Result<Code, AllocError> {
+    Ok(Code {
         starts: vec![in alloc; 0; 1]?,
+        lines: Vec::new(alloc),
+        operands: Vec::new(alloc),
+        seen: Vec::new(alloc),
         spare: 0,
         tasks: Vec::new(alloc),
-        barriers,
-    };
-    Ok(verify(alloc, code).is_some())
+        barriers: Vec::new(alloc),
+    })
+}
+
+// A line, and the operands and open frames that are written before it.
+fn add(code: &mut Code, line: Line, operands: Counts, seen: usize) -> Result<(), AllocError> {
+    code.lines.push(line)?;
+    code.operands.push(operands)?;
+    code.seen.push(seen)?;
+    Ok(())
+}
+
+// Whether the code is sound, once it is written.
+fn is_sound(
+    alloc: Global,
+    code: Code,
+    written: Result<(), AllocError>,
+) -> Result<bool, AllocError> {
+    match written {
+        Ok(()) => Ok(verify(alloc, code).is_some()),
+        Err(error) => {
+            drop(code);
+            Err(error)
+        }
+    }
 }
 
 // A step that puts a text, and the end of its body; behind the step's instruction these operands are written.
+fn put(code: &mut Code, instruction: Instruction, left: Counts) -> Result<(), AllocError> {
+    add(code, Line::Instruction(instruction), NOTHING, 1)?;
+    add(code, end(Last::Does(Ending::Put, 2), 2, None), left, 1)?;
+    add(
+        code,
+        end(Last::Ends(Construct::Unit, 0), 2, None),
+        NOTHING,
+        1,
+    )
+}
+
 fn puts(alloc: Global, instruction: Instruction, left: Counts) -> Result<bool, AllocError> {
-    let lines = [
-        Line::Instruction(instruction),
-        line(Last::Does(Ending::Put, 2), 2, None),
-        line(Last::Ends(Construct::Unit, 0), 2, None),
-    ];
-    let lines = Vec::from_array(alloc, lines)?;
-    let operands = Vec::from_array(alloc, [NOTHING, left, NOTHING])?;
-    is_sound(alloc, lines, operands, vec![in alloc; 1; 3]?)
+    let mut code = empty(alloc)?;
+    let written = put(&mut code, instruction, left);
+    is_sound(alloc, code, written)
 }
 
 const INTEGER: Counts = Counts {
@@ -105,37 +117,42 @@ fn reads_variables_of_open_frames(rt: HostRuntime) -> Result<(), AllocError> {
 
 // The barrier that reads the first variable of the frame at this level; so many frames are written for it.
 fn barrier(alloc: Global, level: usize, frames: usize) -> Result<Barrier, AllocError> {
+    let operands = Vec::from_array(alloc, [NOTHING, INTEGER, TRUTH])?;
     let lines = [
         Line::Instruction(Instruction::Load(Variable { level, index: 0 })),
         Line::Instruction(Instruction::Truth),
-        line(Last::Does(Ending::If(0), 0), 0, None),
+        end(Last::Does(Ending::If(0), 0), 0, None),
     ];
     Ok(Barrier {
         lines: Vec::from_array(alloc, lines)?,
-        operands: Vec::from_array(alloc, [NOTHING, INTEGER, TRUTH])?,
+        operands,
         frames,
     })
 }
 
 // A body that calls the entry with this barrier of an object in its own frame.
-fn calls(alloc: Global, level: usize, frames: usize) -> Result<bool, AllocError> {
+fn call(code: &mut Code, barrier: Barrier) -> Result<(), AllocError> {
+    code.barriers.push(barrier)?;
     let call = Among::CallObject {
         object: Variable { level: 0, index: 0 },
         entry: 0,
         kind: CallKind::Plain,
         otherwise: 1,
     };
-    let lines = [
-        line(Last::Concerns(call, 1), 1, None),
-        line(Last::Ends(Construct::Unit, 0), 1, None),
-    ];
-    is_sound_with(
-        alloc,
-        Vec::from_array(alloc, lines)?,
-        Vec::from_array(alloc, [NOTHING, NOTHING])?,
-        vec![in alloc; 1; 2]?,
-        Vec::from_array(alloc, [barrier(alloc, level, frames)?])?,
+    add(code, end(Last::Concerns(call, 1), 1, None), NOTHING, 1)?;
+    add(
+        code,
+        end(Last::Ends(Construct::Unit, 0), 1, None),
+        NOTHING,
+        1,
     )
+}
+
+fn calls(alloc: Global, level: usize, frames: usize) -> Result<bool, AllocError> {
+    let barrier = barrier(alloc, level, frames)?;
+    let mut code = empty(alloc)?;
+    let written = call(&mut code, barrier);
+    is_sound(alloc, code, written)
 }
 
 // The object's own frame is the second one that is open for its barriers.
@@ -154,8 +171,31 @@ const LOOP: ForLoop = ForLoop {
     backward: false,
 };
 
+// The bounds of a loop.
+fn bounds(code: &mut Code) -> Result<(), AllocError> {
+    let second = Counts {
+        booleans: 1,
+        ..INTEGER
+    };
+    for (operands, pushed) in [(NOTHING, TRUTH), (INTEGER, second)] {
+        add(
+            code,
+            Line::Instruction(Instruction::PushTruth(true)),
+            operands,
+            1,
+        )?;
+        add(code, Line::Instruction(Instruction::Cell), pushed, 1)?;
+    }
+    Ok(())
+}
+
 // A loop from whose inside a return leads to the end of the body, out of so many loops; so many frames are written inside.
-fn returns(alloc: Global, loops: usize, inside: usize) -> Result<bool, AllocError> {
+fn return_from(code: &mut Code, loops: usize, inside: usize) -> Result<(), AllocError> {
+    bounds(code)?;
+    let both = Counts {
+        integers: 2,
+        ..NOTHING
+    };
     let begins = Ending::Loop {
         control: LOOP,
         inside: 6,
@@ -165,35 +205,27 @@ fn returns(alloc: Global, loops: usize, inside: usize) -> Result<bool, AllocErro
         behind: 7,
         inside: 6,
     };
-    let way = Way { to: 7, loops };
-    let lines = [
-        Line::Instruction(Instruction::PushTruth(true)),
-        Line::Instruction(Instruction::Cell),
-        Line::Instruction(Instruction::PushTruth(true)),
-        Line::Instruction(Instruction::Cell),
-        line(Last::Does(begins, 7), 7, None),
-        line(goes_on, 7, Some(0)),
-        line(Last::Does(Ending::Return(way), 5), 7, Some(0)),
-        line(Last::Ends(Construct::Unit, 0), 7, None),
-    ];
-    let second = Counts {
-        booleans: 1,
-        ..INTEGER
-    };
-    let both = Counts {
-        integers: 2,
-        ..NOTHING
-    };
-    let operands = [
-        NOTHING, TRUTH, INTEGER, second, both, NOTHING, NOTHING, NOTHING,
-    ];
-    let seen = [1, 1, 1, 1, 1, inside, inside, 1];
-    is_sound(
-        alloc,
-        Vec::from_array(alloc, lines)?,
-        Vec::from_array(alloc, operands)?,
-        Vec::from_array(alloc, seen)?,
+    let returns = Ending::Return(Way { to: 7, loops });
+    add(code, end(Last::Does(begins, 7), 7, None), both, 1)?;
+    add(code, end(goes_on, 7, Some(0)), NOTHING, inside)?;
+    add(
+        code,
+        end(Last::Does(returns, 5), 7, Some(0)),
+        NOTHING,
+        inside,
+    )?;
+    add(
+        code,
+        end(Last::Ends(Construct::Unit, 0), 7, None),
+        NOTHING,
+        1,
     )
+}
+
+fn returns(alloc: Global, loops: usize, inside: usize) -> Result<bool, AllocError> {
+    let mut code = empty(alloc)?;
+    let written = return_from(&mut code, loops, inside);
+    is_sound(alloc, code, written)
 }
 
 #[test]
