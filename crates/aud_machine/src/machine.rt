@@ -344,8 +344,12 @@ impl Machine {
     }
 }
 
-// A program before its first step, which stands where a step begins and keeps the limits.
-fn opened(
+/// A program before its first step, which stands where a step begins and keeps the limits.
+///
+/// # Errors
+///
+/// Where memory is refused.
+pub fn opened(
     alloc: Global,
     code: &SoundCode,
     program: &Program,

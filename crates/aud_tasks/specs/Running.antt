@@ -5,7 +5,7 @@ use Rattle.aud_typed.specs.Tree.{Plan}
 use Rattle.aud_meaning.specs.Configuration.{TaskAt, All}
 use Rattle.aud_meaning.specs.declared.state.Move.{Move}
 use Rattle.aud_meaning.specs.declared.state.Status.TheVariants.{Running}
-use Rattle.aud_meaning.specs.Parts.{is_idle, object_of, sight_of}
+use Rattle.aud_meaning.specs.Parts.{is_idle, object_of, own_of, sight_of}
 use Rattle.aud_meaning.specs.Run.{Turn, acting, own_move, moves_at, run_with, state_at, step_with, take_one}
 use Rattle.aud_meaning.specs.Why.Limits.{IsWithin}
 use Rattle.aud_code.specs.Places.{Spot}
@@ -16,7 +16,9 @@ use Rattle.aud_tasks.specs.declared.run.Ran.{Ran}
 use Rattle.aud_state.specs.declared.fast.Taken.{Taken}
 use Rattle.aud_tasks.specs.Choices.{IsNoStart}
 use Rattle.aud_tasks.specs.Counting.{most_ticks}
-use Rattle.aud_tasks.specs.Turning.{turn_in}
+use Rattle.aud_state.specs.Reads.{IsPlain}
+use Rattle.aud_tasks.specs.Moving.{IsSimple, has_some, moves_of}
+use Rattle.aud_tasks.specs.Turning.{coming_in, turn_in}
 
 -- the same is left in new as after n steps from old, or after those until no move is enabled, and what was done is told
 pub record RunsLeaving (plan : Plan) (code : Flat) (limits : Limits) (n : ℕ) (old new : All Spot) (ran : Ran) : Type 0 where
@@ -61,6 +63,13 @@ pub record RunsFirst (plan : Plan) (code : Flat) (limits : Limits) (n : ℕ) (ol
   pub within : taken.steps ≤ n
   pub few : taken.ticks ≤ taken.steps * size code
 
+-- at most n steps that a run does next, by choices or not
+pub record RunsChosen (plan : Plan) (code : Flat) (limits : Limits) (n : ℕ) (old new : All Spot) (taken : Taken) : Type 0 where
+  pub leads : RunsOn plan code limits taken.steps old new
+  pub steps : taken.steps + old.steps ≡ new.steps
+  pub within : taken.steps ≤ n
+  pub few : taken.ticks ≤ taken.steps * most_ticks plan code
+
 -- no choice is used up for a move: there are no others, or no choice waits
 abbrev pub IsUnchosen : List Move → List ℕ → Type 0
 IsUnchosen [] choices = Unit {0}
@@ -86,6 +95,19 @@ BeginsAlone plan code n c = (k : ℕ) (t : TaskAt Spot) → slice_get c.tasks k 
 -- one that services an object, too, but that has a move in any case.
 abbrev pub HindersNone : Plan → Flat → ℕ → All Spot → Type 0
 HindersNone plan code n c = AreIdle c ⊎ BeginsAlone plan code n c
+
+-- each task that has a move runs as usual, and what comes next of it is simple
+abbrev pub AreSimple : Plan → Flat → All Spot → Type 0
+AreSimple plan code c = (k : ℕ) → has_some (moves_of plan code k c) ≡ true → IsPlain (own_of k c) × IsSimple (coming_in plan code k c)
+
+-- no task that runs is to begin an action of an object
+abbrev pub BeginsNone : Plan → Flat → All Spot → Type 0
+BeginsNone plan code c = (k : ℕ) (t : TaskAt Spot) → slice_get c.tasks k ≡ Some t → t.own.status ≡ Running → IsNoStart (coming_at code plan t.own.pending (sight_of k c) t.control)
+
+-- the moves stay as they are while tasks that have some go on from one simple step to the next
+pub record AreSteady (plan : Plan) (code : Flat) (c : All Spot) : Type 0 where
+  pub simple : AreSimple plan code c
+  pub starts : AreIdle c ⊎ BeginsNone plan code c
 
 -- a move is taken; before it, where there are others, the next choice is used up
 pub record Picks (plan : Plan) (code : Flat) (m : Move) (old new : All Spot) : Type 0 where

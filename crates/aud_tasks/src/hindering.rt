@@ -1,11 +1,11 @@
 // Whether what a task does to variables can let another begin an action of an object, or keep it from one.
 
-ghost use Rattle.std.specs.Prelude.{◌≡◌, ◌<◌, false, length, IsTrue};
+ghost use Rattle.std.specs.Prelude.{◌≡◌, ◌<◌, ◌⊎◌, false, length, IsTrue};
 ghost use Rattle.aud_typed.specs.Ties.View.{plain_program};
 ghost use Rattle.aud_meaning.specs.declared.state.Status.TheVariants.{Running};
 ghost use Rattle.aud_meaning.specs.Parts.{own_of};
 ghost use Rattle.aud_tasks.specs.Choices.{IsNoStart};
-ghost use Rattle.aud_tasks.specs.Running.{AreIdle, BeginsAlone, HindersNone};
+ghost use Rattle.aud_tasks.specs.Running.{AreIdle, BeginsAlone, BeginsNone, HindersNone};
 ghost use Rattle.aud_tasks.specs.Turning.{coming_in};
 
 use crate::choice::start_at;
@@ -20,6 +20,14 @@ pub(crate) fn hinders_none(state: &State, compiled: Compiled<'_>, task: usize) -
         compiled.entry.code.now task state.now }
 {
     are_idle(state) || !another_begins(state, compiled, task)
+}
+
+/// Whether all objects are idle, or no task is to begin an action next.
+pub(crate) fn begin_none(state: &State, compiled: Compiled<'_>) -> bool
+    ensures { IsTrue result → AreIdle state.now ⊎ BeginsNone (plain_program compiled.entry.program.now).plan
+        compiled.entry.code.now state.now }
+{
+    are_idle(state) || !another_begins(state, compiled, state.len())
 }
 
 // Whether no object has an action under way.

@@ -4,6 +4,7 @@
 mod act;
 mod barriers;
 mod choice;
+pub mod chosen;
 pub mod coming;
 pub mod compiled;
 mod enabled;

@@ -10,7 +10,8 @@ ghost use Rattle.aud_code.specs.Flat.{barrier_at, flat_controls, Flat};
 ghost use Rattle.aud_tasks.specs.Enabled.{enabled_moves};
 ghost use Rattle.aud_code.specs.Starts.{AreSpots};
 ghost use Rattle.aud_tasks.specs.Choices.{ComesTo};
-ghost use Rattle.aud_tasks.specs.Moving.{alone_if, has_some, moves_behind, moves_of, picked, IsNextMover};
+ghost use Rattle.aud_tasks.specs.Moving.{alone_if, has_some, moves_behind, moves_of, picked, IsNextMover, IsSimple};
+ghost use Rattle.aud_state.specs.Reads.{IsPlain};
 ghost use Rattle.aud_tasks.specs.Turning.{coming_in};
 
 use crate::barriers::Evaluator;
@@ -191,9 +192,11 @@ fn has_ended_delay(delays: &[OpenDelay], task: usize, clock: u64) -> bool
     nth(&Enabled::Delays(delays), task, clock, 0).is_some()
 }
 
-// Whether a task's own next step is its only move, as far as one look tells.
-fn acts_simply(state: &State, code: &SoundCode, task: usize) -> bool
-    ensures { IsTrue result → (plan : Plan) → moves_of plan code.now task state.now ≡ alone_if true task }
+/// Whether a task's own next step is its only move, as far as one look tells.
+pub(crate) fn acts_simply(state: &State, code: &SoundCode, task: usize) -> bool
+    ensures alone { IsTrue result → (plan : Plan) → moves_of plan code.now task state.now ≡ alone_if true task }
+    ensures plain { IsTrue result → IsPlain (own_of task state.now) }
+    ensures simple { IsTrue result → (plan : Plan) → IsSimple (coming_in plan code.now task state.now) }
 {
     if state.is_plain(task) {
         return is_simple(state, code, task);

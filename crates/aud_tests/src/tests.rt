@@ -5,6 +5,7 @@
 
 mod answers;
 mod benches;
+mod choosing;
 mod connections;
 mod counted;
 mod desks;

@@ -118,6 +118,15 @@ free_by (a ∷ more) o n reading are idle = absurd (let busy : is_idle o ≡ fal
 abbrev pub ServesAlike : Plan → (ℕ → Sight → Result Bool Raise) → All Seen → All Seen → Type 0
 ServesAlike plan barrier d e = (object : ℕ) → eligible plan barrier object d ≡ eligible plan barrier object e
 
+-- a task of which something holds has none
+abbrev pub Quiet : Plan → (ℕ → Sight → Result Bool Raise) → All Seen → (ℕ → Type 0) → ℕ → List (TaskAt Seen) → Type 0
+Quiet plan barrier d Other n [] = Unit {0}
+Quiet plan barrier d Other n (t ∷ ts) = (Other n → HasSome (turn_moves plan barrier (turn plan barrier n t d) n d) → ⊥) × Quiet plan barrier d Other (suc n) ts
+
+quiet_same : (Other : Type 0) (ms ns : List Move) → (Other → HasSome ms → ⊥) → AgreeMoves Other ms ns → ms ≡ ns
+quiet_same Other ms ns quiet (same_moves is) = is
+quiet_same Other ms ns quiet (some_moves other some there) = absurd (quiet other some)
+
 module _ (plan : Plan) (barrier : ℕ → Sight → Result Bool Raise) (Free : Status → Type 0) (Served : Type 0) (d : All Seen) (free : Free Running → AreIdle d) (us : List (TaskAt Seen)) (frames : List Frame) (choices : List ℕ) (steps : ℕ) (serves : Served → ServesAlike plan barrier d (elsewhere us frames choices steps d)) (same : owns d.tasks ≡ owns us) where
   abbrev e : All Seen
   e = elsewhere us frames choices steps d
@@ -286,6 +295,18 @@ module _ (plan : Plan) (barrier : ℕ → Sight → Result Bool Raise) (Free : S
       ap (λ ms. ms ++ moves_from plan barrier (suc n) ts d) (none_differ (moves_of_task (λ k. ⊥) n t v h.0))
       ∙ ap (λ ms. turn_moves plan barrier (turn plan barrier n v e) n e ++ ms) (all_there (suc n) ts vs h.1)
 
+  -- the same of such a task in both, and of all
+  pub quiet_task : (Other : Type 0) (n : ℕ) (t v : TaskAt Seen) → (Other → HasSome (turn_moves plan barrier (turn plan barrier n t d) n d) → ⊥) → AlikeTask Free Served Other t v → turn_moves plan barrier (turn plan barrier n t d) n d ≡ turn_moves plan barrier (turn plan barrier n v e) n e
+  quiet_task Other n t v quiet h = quiet_same Other _ _ quiet (task_there Other n t v h).moves
+
+  quiet_there : (Other : ℕ → Type 0) (n : ℕ) (ts vs : List (TaskAt Seen)) → Quiet plan barrier d Other n ts → AlikeTasks Free Served Other n ts vs → moves_from plan barrier n ts d ≡ moves_from plan barrier n vs e
+  quiet_there Other n [] [] quiet h = refl
+  quiet_there Other n [] (v ∷ vs) quiet h = absurd h
+  quiet_there Other n (t ∷ ts) [] quiet h = absurd h
+  quiet_there Other n (t ∷ ts) (v ∷ vs) quiet h =
+      ap (λ l. l ++ moves_from plan barrier (suc n) ts d) (quiet_task (Other n) n t v quiet.0 h.0)
+      ∙ ap (λ l. turn_moves plan barrier (turn plan barrier n v e) n e ++ l) (quiet_there Other (suc n) ts vs quiet.1 h.1)
+
   -- none in both, where there is none in the one
   none_there : (Other : ℕ → Type 0) (n : ℕ) (ts vs : List (TaskAt Seen)) → AlikeTasks Free Served Other n ts vs → moves_from plan barrier n ts d ≡ [] → moves_from plan barrier n vs e ≡ []
   none_there Other n [] [] h none = refl
@@ -381,3 +402,19 @@ module _ (plan : Plan) (barrier : ℕ → Sight → Result Bool Raise) (Free : S
       by true cut h = absurd cc
       by false true h = absurd cc
       by false false h = first_there plan barrier Free Served d free us frames choices steps serves (owns_alike Free Served Different 0 d.tasks us alike) of 0 d.tasks us others alike h
+
+-- those of which they may differ have none
+module _ (plan : Plan) (barrier : ℕ → Sight → Result Bool Raise) (Free : Status → Type 0) (Served : Type 0) (Other : ℕ → Type 0) (d : All Seen) (free : Free Running → AreIdle d) (us : List (TaskAt Seen)) (frames : List Frame) (choices : List ℕ) (steps : ℕ) (serves : Served → ServesAlike plan barrier d (elsewhere us frames choices steps d)) (alike : AlikeTasks Free Served Other 0 d.tasks us) where
+  abbrev quietly_there : All Seen
+  quietly_there = there plan barrier Free Served Other d free us frames choices steps serves alike
+
+  pub moves_quiet : Quiet plan barrier d Other 0 d.tasks → moves plan barrier d ≡ moves plan barrier quietly_there
+  moves_quiet quiet = ap (λ b. moves_by plan barrier b d.shared.cut d) (as_ended plan barrier Free Served Other d free us frames choices steps serves alike) ∙ by (has_ended plan barrier us) d.shared.cut
+    where
+      by : (ended cut : Bool) → moves_by plan barrier ended cut d ≡ moves_by plan barrier ended cut quietly_there
+      by true cut = refl
+      by false true = refl
+      by false false = quiet_there plan barrier Free Served d free us frames choices steps serves (owns_alike Free Served Other 0 d.tasks us alike) Other 0 d.tasks us quiet alike
+
+  pub task_quiet : (n : ℕ) (t v : TaskAt Seen) → (Other n → HasSome (turn_moves plan barrier (turn plan barrier n t d) n d) → ⊥) → AlikeTask Free Served (Other n) t v → turn_moves plan barrier (turn plan barrier n t d) n d ≡ turn_moves plan barrier (turn plan barrier n v quietly_there) n quietly_there
+  task_quiet n t v quiet h = quiet_task plan barrier Free Served d free us frames choices steps serves (owns_alike Free Served Other 0 d.tasks us alike) (Other n) n t v quiet h

@@ -100,21 +100,21 @@ no_start_alike Free Other (starting o r) (starting p q) h none = absurd none
 no_start_alike Free Other x y h none = subst IsNoStart h none
 
 -- an action of another task is not to begin where it was not
-still_no_start : (plan : Plan) (code : Flat) → EndsPlainly code → (s r : Sight) (pending : Option Pending) (t : Spot) → IsNoStart (coming_at code plan pending s t) → IsNoStart (coming_at code plan pending r t)
+pub still_no_start : (plan : Plan) (code : Flat) → EndsPlainly code → (s r : Sight) (pending : Option Pending) (t : Spot) → IsNoStart (coming_at code plan pending s t) → IsNoStart (coming_at code plan pending r t)
 still_no_start plan code plain s r pending t none =
     no_start_alike ⊥ (Unit {0}) (coming_at code plan pending s t) (coming_at code plan pending r t)
     (comes_alike ⊥ (Unit {0}) tt plan s r code plain pending t (inl none)) none
 
 -- Parts of tasks of which one stands elsewhere.
 
-changed_other : {A : Type 0} (n k : ℕ) (f : A → A) (xs : List A) → ¬ (k ≡ n) → slice_get (changed n f xs) k ≡ slice_get xs k
+pub changed_other : {A : Type 0} (n k : ℕ) (f : A → A) (xs : List A) → ¬ (k ≡ n) → slice_get (changed n f xs) k ≡ slice_get xs k
 changed_other n k f [] other = refl
 changed_other zero zero f (x ∷ xs) other = absurd (other refl)
 changed_other zero (suc k) f (x ∷ xs) other = refl
 changed_other (suc n) zero f (x ∷ xs) other = refl
 changed_other (suc n) (suc k) f (x ∷ xs) other = changed_other n k f xs (λ is. other (ap suc is))
 
-served_all : (serving : Option Serving) → IfSome serving (λ s. Unit {0})
+pub served_all : (serving : Option Serving) → IfSome serving (λ s. Unit {0})
 served_all None = tt
 served_all (Some s) = tt
 
@@ -122,7 +122,7 @@ module _ (plan : Plan) (code : Flat) where
   abbrev K : Controls Spot
   K = flat_controls plan code
 
-  self_seen : (i : ℕ) (ts : List (TaskAt Spot)) (os : List Own) (shared : Shared) → AlikeTasks (λ s. ⊥) (Unit {0}) (λ k. ⊥) i (seen_from plan K i ts os shared) (seen_from plan K i ts os shared)
+  pub self_seen : (i : ℕ) (ts : List (TaskAt Spot)) (os : List Own) (shared : Shared) → AlikeTasks (λ s. ⊥) (Unit {0}) (λ k. ⊥) i (seen_from plan K i ts os shared) (seen_from plan K i ts os shared)
   self_seen i [] os shared = tt
   self_seen i (t ∷ ts) os shared = (
     record {
@@ -133,7 +133,7 @@ module _ (plan : Plan) (code : Flat) where
     self_seen (suc i) ts os shared,
   )
 
-  unchosen_from : (c : All Seen) (choices : List ℕ) (i : ℕ) (es : List ℕ) (object : ℕ) → eligible_from plan K.barrier i es object c ≡ eligible_from plan K.barrier i es object (record c { choices = choices })
+  pub unchosen_from : (c : All Seen) (choices : List ℕ) (i : ℕ) (es : List ℕ) (object : ℕ) → eligible_from plan K.barrier i es object c ≡ eligible_from plan K.barrier i es object (record c { choices = choices })
   unchosen_from c choices i [] object = refl
   unchosen_from c choices i (e ∷ es) object =
       ap (λ r. eligible_if (queue object e c.shared.calls) (barrier_of plan K.barrier object e c) i r) (unchosen_from c choices (suc i) es object)
@@ -230,7 +230,7 @@ module _ (plan : Plan) (code : Flat) where
     others_seen i [] past opens = tt
     others_seen i (t ∷ ts) past opens = (other_seen i t (λ is. omega (arith, is, past)) opens.0, others_seen (suc i) ts (omega (arith, past)) opens.1)
 
-    goes_alike : (Free Other : Type 0) (i : ℕ) (t : TaskAt Spot) (u : Spot) → GoesThere t u → AreAlike Free Other (coming_at code plan t.own.pending (sight_in i os sh) t.control) (coming_at code plan t.own.pending (sight_in i rs th) u)
+    pub goes_alike : (Free Other : Type 0) (i : ℕ) (t : TaskAt Spot) (u : Spot) → GoesThere t u → AreAlike Free Other (coming_at code plan t.own.pending (sight_in i os sh) t.control) (coming_at code plan t.own.pending (sight_in i rs th) u)
     goes_alike Free Other i t u goes =
         subst (λ p. AreAlike Free Other (coming_at code plan p (sight_in i os sh) t.control) (coming_at code plan p (sight_in i rs th) u)) (sym goes.none)
         (plainly_alike Free Other (coming_at code plan None (sight_in i os sh) t.control) (coming_at code plan None (sight_in i rs th) u) (goes.here (sight_in i os sh)) (goes.there (sight_in i rs th)))

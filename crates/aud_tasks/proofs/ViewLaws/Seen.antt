@@ -26,11 +26,11 @@ own_is (t ∷ ts) zero = refl
 own_is (t ∷ ts) (suc n) = own_is ts n
 
 module _ (plan : Plan) (code : Flat) where
-  abbrev one_seen : ℕ → List Own → Shared → Option (TaskAt Spot) → Option (TaskAt Seen)
+  abbrev pub one_seen : ℕ → List Own → Shared → Option (TaskAt Spot) → Option (TaskAt Seen)
   one_seen m os shared None = None
   one_seen m os shared (Some t) = Some (record { control = record { coming = coming_at code plan t.own.pending (sight_in m os shared) t.control; place = shown_place plan (flat_controls plan code) t.own.pending t.control }; own = t.own })
 
-  seen_at : (i m n : ℕ) (ts : List (TaskAt Spot)) (os : List Own) (shared : Shared) → i + n ≡ m → slice_get (seen_from plan (flat_controls plan code) i ts os shared) n ≡ one_seen m os shared (slice_get ts n)
+  pub seen_at : (i m n : ℕ) (ts : List (TaskAt Spot)) (os : List Own) (shared : Shared) → i + n ≡ m → slice_get (seen_from plan (flat_controls plan code) i ts os shared) n ≡ one_seen m os shared (slice_get ts n)
   seen_at i m n [] os shared is = refl
   seen_at i m zero (t ∷ ts) os shared is =
       let e : i ≡ m = omega (arith, is) in

@@ -5,7 +5,9 @@ use crate::tests::desks::desk_of;
 use crate::tests::finds;
 use aud_connection::serve::{ServeFault, serve};
 use aud_desk::desk::Desk;
+use aud_desk::fault::DeskFault;
 use aud_desk::gate::Direct;
+use aud_desk::pass::Pass;
 use aud_server::host::Host;
 use aud_solo::streams::{Fused, Stream};
 use std::alloc::{AllocError, Global};
@@ -13,17 +15,16 @@ use std::cell::Cell;
 use std::io::Read;
 use std::process::Abort;
 use std::sync::Wait;
-use std::test::*;
 use std::thread;
 use std::thread::Threads;
 
 // So many times this is asked, and that is told for it.
 pub type Turn = (usize, &'static [u8], &'static [u8]);
 
-// How a connection ended, and what it was told.
-type Served = (Result<(), ServeFault>, Vec<u8>);
+// How a connection ends, and what it is told.
+type Served<'a> = (Result<(), ServeFault>, &'a [u8]);
 
-// Each is asked once: `due` counts on it.
+// Each is asked once: `is_cut_short` counts on it.
 const SESSION: &[Turn] = &[
     (1, b"SEAT 9\n", b"- E92 no such seat\n"),
     (1, b"RUN 1\n", NOT_CLAIMED),
@@ -93,61 +94,45 @@ const JOURNAL: &[Turn] = &[
     (1, b"QUIT\n", b"+ 0\n"),
 ];
 
-// What is asked in these turns, and what is told for it.
-pub fn script(alloc: Global, turns: &[Turn]) -> Result<(Vec<u8>, Vec<u8>), AllocError> {
-    let mut asked = Vec::new(alloc);
-    let mut told = Vec::new(alloc);
-    for &(times, request, answer) in turns {
+// What is asked in these turns.
+pub fn asked(alloc: Global, turns: &[Turn]) -> Result<Vec<u8>, AllocError> {
+    let mut text = Vec::new(alloc);
+    for &(times, request, _) in turns {
         for _ in 0..times {
-            asked.extend_from_slice(request)?;
-            told.extend_from_slice(answer)?;
+            text.extend_from_slice(request)?;
         }
     }
-    Ok((asked, told))
+    Ok(text)
 }
 
-// What is told once so many bytes of the session are read.
-fn due(alloc: Global, bytes: usize) -> Result<Vec<u8>, AllocError> {
-    let mut told = Vec::new(alloc);
-    let mut end = 0usize;
-    for &(_, request, answer) in SESSION {
-        end = end.saturating_add(request.len());
-        if end <= bytes {
-            told.extend_from_slice(answer)?;
+// What is told for it.
+pub fn told(alloc: Global, turns: &[Turn]) -> Result<Vec<u8>, AllocError> {
+    let mut text = Vec::new(alloc);
+    for &(times, _, answer) in turns {
+        for _ in 0..times {
+            text.extend_from_slice(answer)?;
         }
     }
-    Ok(told)
+    Ok(text)
 }
 
-fn served<R: Wait, S: Read + Drop>(rt: &R, alloc: Global, desk: &Desk, reader: S) -> Served {
-    let mut written = Vec::new(alloc);
-    let ended = serve(
-        rt,
-        alloc,
-        desk,
-        &mut Stream::new(reader),
-        &mut Stream::new(&mut written),
-    );
-    (ended, written)
-}
-
-// The same while a worker of the host, which is the desk, works; it stops then.
-fn with_worker<R: Threads + Wait + Sync, H: Host + Sync>(
+// Tests that a connection ends so and is told this where the write of this number fails, none for 0; and that it leaves its seat.
+fn is_served<R: Abort + Wait, S: Read + Drop>(
     rt: &R,
     alloc: Global,
-    host: &H,
     desk: &Desk,
-    asked: &[u8],
-) -> Served {
-    thread::scope(thread::scope_env(), rt, |scope| {
-        // Without a worker whoever asks works.
-        if scope.spawn(|| host.work(rt, alloc, &Direct)).is_err() {
-            desk.stop(rt);
-        }
-        let found = served(rt, alloc, desk, asked);
-        desk.stop(rt);
-        found
-    })
+    name: &str,
+    reader: S,
+    failing: u64,
+    wanted: Served,
+) {
+    let mut written = Vec::new(alloc);
+    let mut reader = Stream::new(reader);
+    let mut writer = Stream::new(Fused::new(&mut written, failing));
+    let ended = serve(rt, alloc, desk, &mut reader, &mut writer);
+    assert!(rt; ended == wanted.0);
+    finds(rt, name, &written, wanted.1);
+    assert!(rt; is_free(rt, alloc, desk));
 }
 
 // Whether seat 1 can be opened, with nothing stored there, and closed.
@@ -160,10 +145,12 @@ fn is_free<R: Wait>(rt: &R, alloc: Global, desk: &Desk) -> bool {
 
 // Each session whole, while a worker works, and behind it at the same desk byte by byte, without one.
 #[test]
-fn tells_what_is_due(rt: HostRuntime) -> Result<(), Fail> {
+fn tells_what_is_due(rt: HostRuntime) -> Result<(), AllocError> {
     for (name, turns) in SESSIONS {
         let desk = desk_of(rt.alloc(), 8)?;
-        at_desk(&rt, rt.alloc(), &desk, &desk, name, turns)?;
+        let told = at_desk(&rt, rt.alloc(), &desk, &desk, name, turns);
+        drop(desk);
+        told?;
     }
     Ok(())
 }
@@ -175,150 +162,160 @@ fn at_desk<R: Abort + Threads + Wait + Sync, H: Host + Sync>(
     desk: &Desk,
     name: &str,
     turns: &[Turn],
-) -> Result<(), Fail> {
-    let (asked, told) = script(alloc, turns)?;
-    let held = desk.open(rt, alloc, 2)?;
-    let by_worker = with_worker(rt, alloc, host, desk, &asked);
-    is_told(rt, alloc, desk, name, &by_worker, &told);
+) -> Result<(), AllocError> {
+    let asked = asked(alloc, turns)?;
+    let told = told(alloc, turns)?;
+    let held = desk.open(rt, alloc, 2);
+    with_worker(rt, alloc, host, desk, name, &asked, &told);
     let given = Cell::new(0);
     let reader = Counted {
         rest: asked.as_slice(),
         given: &given,
     };
-    let by_bytes = served(rt, alloc, desk, reader);
-    is_told(rt, alloc, desk, name, &by_bytes, &told);
-    assert!(rt; desk.close(rt, held).is_ok());
+    is_served(rt, alloc, desk, name, reader, 0, (Ok(()), &told));
+    closes(rt, desk, held);
     Ok(())
 }
 
-// Tests that the connection ended well, was told this, and has left its seat.
-fn is_told<R: Abort + Wait>(
+// Tests that a seat was opened, and is closed.
+fn closes<R: Abort + Wait>(rt: &R, desk: &Desk, held: Result<Pass, DeskFault>) {
+    match held {
+        Ok(pass) => assert!(rt; desk.close(rt, pass).is_ok()),
+        Err(_) => assert!(rt; false, "not opened"),
+    }
+}
+
+// The session while a worker of the host, which is the desk, works; it stops then.
+fn with_worker<R: Abort + Threads + Wait + Sync, H: Host + Sync>(
+    rt: &R,
+    alloc: Global,
+    host: &H,
+    desk: &Desk,
+    name: &str,
+    asked: &[u8],
+    told: &[u8],
+) {
+    thread::scope(thread::scope_env(), rt, |scope| {
+        // Without a worker whoever asks works.
+        if scope.spawn(|| host.work(rt, alloc, &Direct)).is_err() {
+            desk.stop(rt);
+        }
+        is_served(rt, alloc, desk, name, asked, 0, (Ok(()), told));
+        desk.stop(rt);
+    })
+}
+
+// At a desk without workers, as those that follow.
+#[test]
+fn fills_its_journal(rt: HostRuntime) -> Result<(), AllocError> {
+    let desk = desk_of(rt.alloc(), 8)?;
+    desk.stop(&rt);
+    let filled = is_filled(&rt, rt.alloc(), &desk, JOURNAL);
+    drop(desk);
+    filled
+}
+
+fn is_filled<R: Abort + Wait>(
     rt: &R,
     alloc: Global,
     desk: &Desk,
-    name: &str,
-    served: &Served,
-    told: &[u8],
-) {
-    assert!(rt; served.0.is_ok());
-    finds(rt, name, &served.1, told);
-    assert!(rt; is_free(rt, alloc, desk));
+    turns: &[Turn],
+) -> Result<(), AllocError> {
+    let asked = asked(alloc, turns)?;
+    let told = told(alloc, turns)?;
+    is_served(
+        rt,
+        alloc,
+        desk,
+        "a full journal",
+        asked.as_slice(),
+        0,
+        (Ok(()), &told),
+    );
+    Ok(())
 }
 
-// At desks without workers: a session that fills its journal, and another one that is cut short at any byte.
+// A session that is cut short at any byte, and of whose answers each is not taken in turn.
 #[test]
 fn frees_its_seat(rt: HostRuntime) -> Result<(), AllocError> {
     let desk = desk_of(rt.alloc(), 8)?;
     desk.stop(&rt);
-    is_left(&rt, rt.alloc(), &desk)
-}
-
-fn is_left<R: Abort + Wait>(rt: &R, alloc: Global, desk: &Desk) -> Result<(), AllocError> {
-    fills_its_journal(rt, alloc, desk)?;
-    let (asked, _) = script(alloc, SESSION)?;
-    is_cut_short(rt, alloc, desk, &asked)
+    let cut = is_cut_short(&rt, rt.alloc(), &desk, SESSION);
+    drop(desk);
+    cut
 }
 
 fn is_cut_short<R: Abort + Wait>(
     rt: &R,
     alloc: Global,
     desk: &Desk,
-    asked: &[u8],
+    turns: &[Turn],
 ) -> Result<(), AllocError> {
-    for count in 0..asked.len() {
-        ends_after(rt, alloc, desk, &asked[..count])?;
-        fails_after(rt, alloc, desk, asked, count)?;
+    let asked = asked(alloc, turns)?;
+    let mut told = Vec::new(alloc);
+    let mut read = 0usize;
+    let mut failing = 0u64;
+    for &(_, request, answer) in turns {
+        for _ in request {
+            ends_behind(rt, alloc, desk, &asked, read, &told);
+            read = read.saturating_add(1);
+        }
+        failing = failing.saturating_add(1);
+        let wanted = (Err(ServeFault::Write), told.as_slice());
+        is_served(
+            rt,
+            alloc,
+            desk,
+            "no answer",
+            asked.as_slice(),
+            failing,
+            wanted,
+        );
+        told.extend_from_slice(answer)?;
     }
-    fails_to_write(rt, alloc, desk, asked)
-}
-
-fn fills_its_journal<R: Abort + Wait>(
-    rt: &R,
-    alloc: Global,
-    desk: &Desk,
-) -> Result<(), AllocError> {
-    let (asked, told) = script(alloc, JOURNAL)?;
-    let found = served(rt, alloc, desk, asked.as_slice());
-    is_told(rt, alloc, desk, "a full journal", &found, &told);
     Ok(())
 }
 
-// A connection that ends after these bytes of the session.
-fn ends_after<R: Abort + Wait>(
-    rt: &R,
-    alloc: Global,
-    desk: &Desk,
-    front: &[u8],
-) -> Result<(), AllocError> {
-    let told = due(alloc, front.len())?;
-    let found = served(rt, alloc, desk, front);
-    is_told(rt, alloc, desk, "a session that ends", &found, &told);
-    Ok(())
-}
-
-// One whose read fails after so many bytes.
-fn fails_after<R: Abort + Wait>(
+// The connection ends behind so many bytes, and then a read fails there.
+fn ends_behind<R: Abort + Wait>(
     rt: &R,
     alloc: Global,
     desk: &Desk,
     asked: &[u8],
-    count: usize,
-) -> Result<(), AllocError> {
-    let told = due(alloc, count)?;
+    read: usize,
+    told: &[u8],
+) {
+    let front = &asked[..read.min(asked.len())];
+    is_served(rt, alloc, desk, "its end", front, 0, (Ok(()), told));
     let given = Cell::new(0);
     let bytes = Counted {
         rest: asked,
         given: &given,
     };
-    let reader = Fused::new(bytes, (count as u64).saturating_add(1));
-    let (ended, written) = served(rt, alloc, desk, reader);
-    assert!(rt; ended == Err(ServeFault::Read));
-    finds(rt, "a read that fails", &written, &told);
-    assert!(rt; is_free(rt, alloc, desk));
-    Ok(())
+    let reader = Fused::new(bytes, (read as u64).saturating_add(1));
+    let wanted = (Err(ServeFault::Read), told);
+    is_served(rt, alloc, desk, "a read that fails", reader, 0, wanted);
 }
 
-// Each write of an answer fails in turn.
-fn fails_to_write<R: Abort + Wait>(
-    rt: &R,
-    alloc: Global,
-    desk: &Desk,
-    asked: &[u8],
-) -> Result<(), AllocError> {
-    let mut wanted = Vec::new(alloc);
-    let mut call = 0u64;
-    for &(_, _, answer) in SESSION {
-        call = call.saturating_add(1);
-        let mut written = Vec::new(alloc);
-        let mut writer = Stream::new(Fused::new(&mut written, call));
-        let ended = serve(rt, alloc, desk, &mut Stream::new(asked), &mut writer);
-        assert!(rt; ended == Err(ServeFault::Write));
-        assert!(rt; written == wanted);
-        assert!(rt; is_free(rt, alloc, desk));
-        wanted.extend_from_slice(answer)?;
-    }
-    Ok(())
-}
+// The requests of `SESSION`, whose ends stand in the answers below, and one that is not read.
+const SENT: &[u8] =
+    b"SEAT 9\nRUN 1\nSEAT 1\nLOAD 1\nprocedure M is begin null; end M;\nTASKS\nRUN 10\nSEAT 1\nQUIT\nOUTPUT\n";
 
 // Each answer is written when the last byte of its request was read, and nothing is read behind a QUIT with a seat.
 #[test]
 fn answers_before_it_reads_on(rt: HostRuntime) -> Result<(), AllocError> {
     let desk = desk_of(rt.alloc(), 8)?;
     desk.stop(&rt);
-    is_answered_first(&rt, rt.alloc(), &desk)
+    is_answered_first(&rt, rt.alloc(), &desk);
+    drop(desk);
+    Ok(())
 }
 
-fn is_answered_first<R: Abort + Wait>(
-    rt: &R,
-    alloc: Global,
-    desk: &Desk,
-) -> Result<(), AllocError> {
-    let (mut asked, _) = script(alloc, SESSION)?;
-    asked.extend_from_slice(b"OUTPUT\n")?;
+fn is_answered_first<R: Abort + Wait>(rt: &R, alloc: Global, desk: &Desk) {
     let given = Cell::new(0);
     let mut written = Vec::new(alloc);
     let mut reader = Stream::new(Counted {
-        rest: asked.as_slice(),
+        rest: SENT,
         given: &given,
     });
     let mut writer = Stream::new(Noted {
@@ -331,5 +328,4 @@ fn is_answered_first<R: Abort + Wait>(
         b"7: - E92 no such seat\n13: - E93 seat not claimed\n20: + 0\n61: + 1\nloaded M\n67: + 1\n1 M ready 1\n74: + 1\nran 3 ended\n81: - E10 unknown command\n86: + 0\n";
     finds(rt, "answers", &written, wanted);
     assert!(rt; given.get() == 86);
-    Ok(())
 }

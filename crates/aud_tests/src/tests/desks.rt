@@ -18,14 +18,11 @@ use std::alloc::{AllocError, Global};
 use std::process::Abort;
 use std::sync::Wait;
 use std::sync::atomic::{AtomicBool, AtomicU64, Ordering};
-use std::test::*;
 use std::thread;
 use std::thread::Threads;
 use std::time::{Clock, Duration};
 
 const PROGRAM: &[u8] = b"procedure M is begin null; end M;\n";
-
-const TOLD: &[u8] = b"+ 1\nloaded M\n+ 1\nran 3 ended\n";
 
 // Holds the first slice of seat 1 until seat 2 has its answers, and counts the slices of both.
 #[derive(Drop)]
@@ -74,11 +71,7 @@ impl<'a, R: Clock> Holding<'a, R> {
 
 // A desk of so many seats.
 pub fn desk_of(alloc: Global, seats: usize) -> Result<Desk, AllocError> {
-    let mut limits = Vec::new(alloc);
-    for _ in 0..seats {
-        limits.push(STANDARD)?;
-    }
-    Desk::new(alloc, Hall::new(alloc, limits)?)
+    Desk::new(alloc, Hall::new(alloc, vec![in alloc; STANDARD; seats]?)?)
 }
 
 // Sends what loads the program and runs it.
@@ -88,50 +81,84 @@ fn ask<R: Wait>(rt: &R, alloc: Global, desk: &Desk, pass: &mut Pass) -> Result<(
     desk.submit(rt, alloc, pass, Request::Run(10))
 }
 
-// The text of all answers, once none is to come.
-fn told<R: Wait>(
+// Tests that these are all answers, once none is to come.
+fn is_told<R: Abort + Wait>(
     rt: &R,
     alloc: Global,
     desk: &Desk,
     pass: &mut Pass,
-) -> Result<Vec<u8>, DeskFault> {
+    wanted: &[&[u8]],
+) -> Result<(), DeskFault> {
     for _ in rt.forever() {
         if desk.wait(rt, alloc, pass)? == Got::Idle {
             break;
         }
     }
-    let mut text = Vec::new(alloc);
-    for answer in pass.got() {
-        text.extend_from_slice(&answer_text(alloc, answer)?)?;
+    assert!(rt; pass.got().len() == wanted.len());
+    for (answer, &line) in pass.got().iter().zip(wanted) {
+        let text = answer_text(alloc, answer)?;
+        finds(rt, "answer", &text, line);
     }
-    Ok(text)
+    Ok(())
 }
 
-// What seats 1 and 2 are told, of which the first one asks first and the second one is told first.
-fn both_seats<R: Clock + Wait>(
+// Tests that what the program tells is told.
+fn has_run<R: Abort + Wait>(
+    rt: &R,
+    alloc: Global,
+    desk: &Desk,
+    pass: &mut Pass,
+) -> Result<(), DeskFault> {
+    let wanted = [
+        b"+ 1\nloaded M\n".as_slice(),
+        b"+ 1\nran 3 ended\n".as_slice(),
+    ];
+    is_told(rt, alloc, desk, pass, &wanted)
+}
+
+// Seat 1 asks first, and seat 2 is told first.
+fn both_seats<R: Abort + Clock + Wait>(
     rt: &R,
     alloc: Global,
     desk: &Desk,
     gate: &Holding<R>,
-) -> Result<(Vec<u8>, Vec<u8>), DeskFault> {
+) -> Result<(), DeskFault> {
     let mut first = desk.open(rt, alloc, 1)?;
-    let mut second = desk.open(rt, alloc, 2)?;
-    ask(rt, alloc, desk, &mut first)?;
-    ask(rt, alloc, desk, &mut second)?;
-    let of_second = told(rt, alloc, desk, &mut second)?;
+    let told = beside(rt, alloc, desk, gate, &mut first);
+    drop(first);
+    told
+}
+
+fn beside<R: Abort + Clock + Wait>(
+    rt: &R,
+    alloc: Global,
+    desk: &Desk,
+    gate: &Holding<R>,
+    first: &mut Pass,
+) -> Result<(), DeskFault> {
+    ask(rt, alloc, desk, first)?;
+    second_seat(rt, alloc, desk)?;
     gate.answered.store(true, Ordering::SeqCst);
-    Ok((told(rt, alloc, desk, &mut first)?, of_second))
+    has_run(rt, alloc, desk, first)
+}
+
+fn second_seat<R: Abort + Wait>(rt: &R, alloc: Global, desk: &Desk) -> Result<(), DeskFault> {
+    let mut second = desk.open(rt, alloc, 2)?;
+    let asked = ask(rt, alloc, desk, &mut second);
+    let told = has_run(rt, alloc, desk, &mut second);
+    drop(second);
+    asked.and(told)
 }
 
 // The same, while two workers of the host, which is the desk, work through the gate, which holds; they stop then.
-fn held<R: Threads + Clock + Wait + Sync, H: Host + Sync, G: Gate + Sync>(
+fn held<R: Abort + Threads + Clock + Wait + Sync, H: Host + Sync, G: Gate + Sync>(
     rt: &R,
     alloc: Global,
     host: &H,
     gate: &G,
     desk: &Desk,
     holding: &Holding<R>,
-) -> Result<(Vec<u8>, Vec<u8>), DeskFault> {
+) -> Result<(), DeskFault> {
     thread::scope(thread::scope_env(), rt, |scope| {
         for _ in 0..2 {
             if scope.spawn(|| host.work(rt, alloc, gate)).is_err() {
@@ -139,57 +166,73 @@ fn held<R: Threads + Clock + Wait + Sync, H: Host + Sync, G: Gate + Sync>(
                 return Err(DeskFault::Memory);
             }
         }
-        let both = both_seats(rt, alloc, desk, holding);
+        let told = both_seats(rt, alloc, desk, holding);
         desk.stop(rt);
-        both
+        told
     })
 }
 
 #[test]
-fn a_slice_of_one_seat_is_held(rt: HostRuntime) -> Result<(), Fail> {
-    let alloc = rt.alloc();
-    let desk = desk_of(alloc, 2)?;
+fn a_slice_of_one_seat_is_held(rt: HostRuntime) -> Result<(), DeskFault> {
+    let desk = desk_of(rt.alloc(), 2)?;
     let gate = Holding::new(&rt);
-    let both = held(&rt, alloc, &desk, &gate, &desk, &gate);
-    let (first, second) = both?;
-    finds(&rt, "seat 1", &first, TOLD);
-    finds(&rt, "seat 2", &second, TOLD);
+    let told = held(&rt, rt.alloc(), &desk, &gate, &desk, &gate);
+    drop(desk);
     assert!(rt; !gate.late.load(Ordering::SeqCst));
     assert!(rt; 0 < gate.first.load(Ordering::SeqCst));
     assert!(rt; 0 < gate.second.load(Ordering::SeqCst));
-    Ok(())
+    told
 }
 
 // At desks without workers, which do what is sent at once.
 #[test]
-fn passes(rt: HostRuntime) -> Result<(), Fail> {
-    let alloc = rt.alloc();
-    let one = desk_of(alloc, 2)?;
-    let other = desk_of(alloc, 2)?;
+fn passes(rt: HostRuntime) -> Result<(), DeskFault> {
+    let one = desk_of(rt.alloc(), 2)?;
     one.stop(&rt);
-    at_desks(&rt, alloc, &one, &other)
+    let met = at_desk(&rt, rt.alloc(), &one);
+    drop(one);
+    met
 }
 
-fn at_desks<R: Abort + Wait>(rt: &R, alloc: Global, one: &Desk, other: &Desk) -> Result<(), Fail> {
-    refuses_seats(rt, alloc, one)?;
+fn at_desk<R: Abort + Wait>(rt: &R, alloc: Global, one: &Desk) -> Result<(), DeskFault> {
+    let other = desk_of(alloc, 2)?;
+    let met = at_desks(rt, alloc, one, &other);
+    drop(other);
+    met
+}
+
+fn at_desks<R: Abort + Wait>(
+    rt: &R,
+    alloc: Global,
+    one: &Desk,
+    other: &Desk,
+) -> Result<(), DeskFault> {
+    let pass = one.open(rt, alloc, 2)?;
+    refuses_seats(rt, alloc, one);
+    closes(rt, one, pass);
     is_answered(rt, alloc, one)?;
     is_refused_elsewhere(rt, alloc, one, other)
 }
 
-fn refuses_seats<R: Abort + Wait>(rt: &R, alloc: Global, desk: &Desk) -> Result<(), Fail> {
-    let pass = desk.open(rt, alloc, 2)?;
-    assert!(rt; matches!(desk.open(rt, alloc, 2), Err(DeskFault::SeatInUse)));
-    assert!(rt; matches!(desk.open(rt, alloc, 0), Err(DeskFault::NoSuchSeat)));
-    assert!(rt; matches!(desk.open(rt, alloc, 3), Err(DeskFault::NoSuchSeat)));
+fn closes<R: Abort + Wait>(rt: &R, desk: &Desk, pass: Pass) {
     assert!(rt; desk.close(rt, pass).is_ok());
-    Ok(())
 }
 
-fn is_answered<R: Abort + Wait>(rt: &R, alloc: Global, desk: &Desk) -> Result<(), Fail> {
+fn refuses_seats<R: Abort + Wait>(rt: &R, alloc: Global, desk: &Desk) {
+    for (seat, fault) in [
+        (2, DeskFault::SeatInUse),
+        (0, DeskFault::NoSuchSeat),
+        (3, DeskFault::NoSuchSeat),
+    ] {
+        assert!(rt; desk.open(rt, alloc, seat).err() == Some(fault));
+    }
+}
+
+fn is_answered<R: Abort + Wait>(rt: &R, alloc: Global, desk: &Desk) -> Result<(), DeskFault> {
     let mut pass = desk.open(rt, alloc, 2)?;
-    asks_to_its_end(rt, alloc, desk, &mut pass)?;
-    assert!(rt; desk.close(rt, pass).is_ok());
-    Ok(())
+    let told = asks_to_its_end(rt, alloc, desk, &mut pass);
+    closes(rt, desk, pass);
+    told
 }
 
 fn asks_to_its_end<R: Abort + Wait>(
@@ -197,15 +240,14 @@ fn asks_to_its_end<R: Abort + Wait>(
     alloc: Global,
     desk: &Desk,
     pass: &mut Pass,
-) -> Result<(), Fail> {
+) -> Result<(), DeskFault> {
     desk.submit(rt, alloc, pass, Request::Output)?;
     assert!(rt; desk.collect(rt, alloc, pass)? == Got::New(1));
     desk.submit(rt, alloc, pass, Request::Quit)?;
     let refused = desk.submit(rt, alloc, pass, Request::Output);
     assert!(rt; refused == Err(DeskFault::NotClaimed));
-    let text = told(rt, alloc, desk, pass)?;
-    finds(rt, "answers", &text, b"- E14 no program\n+ 0\n");
-    Ok(())
+    let wanted = [b"- E14 no program\n".as_slice(), b"+ 0\n".as_slice()];
+    is_told(rt, alloc, desk, pass, &wanted)
 }
 
 // A pass is refused at another desk, which stores nothing, and goes on at its own.
@@ -214,29 +256,55 @@ fn is_refused_elsewhere<R: Abort + Wait>(
     alloc: Global,
     desk: &Desk,
     other: &Desk,
-) -> Result<(), Fail> {
-    let mut pass = desk.open(rt, alloc, 1)?;
-    desk.submit(rt, alloc, &mut pass, Request::Output)?;
+) -> Result<(), DeskFault> {
     let there = other.open(rt, alloc, 1)?;
+    let told = asks_at_both(rt, alloc, desk, other);
+    closes(rt, other, there);
+    told
+}
+
+fn asks_at_both<R: Abort + Wait>(
+    rt: &R,
+    alloc: Global,
+    desk: &Desk,
+    other: &Desk,
+) -> Result<(), DeskFault> {
+    let mut pass = desk.open(rt, alloc, 1)?;
+    let asked = desk.submit(rt, alloc, &mut pass, Request::Output);
     let refused = other.submit(rt, alloc, &mut pass, Request::Output);
     assert!(rt; refused == Err(DeskFault::NotThisDesk(0)));
-    let Err((mut pass, fault)) = other.close(rt, pass) else {
-        return Err(Fail::new("closed at another desk"));
-    };
-    assert!(rt; fault == DeskFault::NotThisDesk(0));
-    assert!(rt; other.close(rt, there).is_ok());
-    goes_on(rt, alloc, desk, &mut pass)?;
-    assert!(rt; desk.close(rt, pass).is_ok());
-    Ok(())
+    let told = is_not_closed(rt, alloc, desk, other, pass);
+    asked.and(told)
+}
+
+fn is_not_closed<R: Abort + Wait>(
+    rt: &R,
+    alloc: Global,
+    desk: &Desk,
+    other: &Desk,
+    pass: Pass,
+) -> Result<(), DeskFault> {
+    match other.close(rt, pass) {
+        Ok(()) => {
+            assert!(rt; false, "closed at another desk");
+            Ok(())
+        }
+        Err((pass, fault)) => {
+            assert!(rt; fault == DeskFault::NotThisDesk(0));
+            goes_on(rt, alloc, desk, pass)
+        }
+    }
 }
 
 fn goes_on<R: Abort + Wait>(
     rt: &R,
     alloc: Global,
     desk: &Desk,
-    pass: &mut Pass,
+    pass: Pass,
 ) -> Result<(), DeskFault> {
-    let text = told(rt, alloc, desk, pass)?;
-    finds(rt, "its own desk", &text, b"- E14 no program\n");
-    Ok(())
+    let mut pass = pass;
+    let wanted = [b"- E14 no program\n".as_slice()];
+    let told = is_told(rt, alloc, desk, &mut pass, &wanted);
+    closes(rt, desk, pass);
+    told
 }

@@ -4,145 +4,123 @@ use crate::tests::finds;
 use aud_solo::solo::{SoloFault, solo};
 use aud_solo::streams::Stream;
 use std::alloc::Global;
-use std::cell::Cell;
 use std::io::{self, ErrorKind, Read, Write};
+use std::process::Abort;
 
-// A reader whose error is that memory is out.
-#[derive(Drop)]
-struct Empty;
+const ASKED: &[u8] = b"RUN 1\nQUIT\n";
 
-impl Read for Empty {
-    fn read(&mut self, _buf: &mut [u8]) -> io::Result<usize> {
-        Err(io::Error::from(ErrorKind::OutOfMemory))
-    }
-}
-
-// A writer that takes nothing, and counts how often it is asked to.
-#[derive(Drop)]
-struct Full<'a>(&'a Cell<u64>);
-
-impl Write for Full<'_> {
-    fn write(&mut self, _buf: &[u8]) -> io::Result<usize> {
-        self.0.set(self.0.get().saturating_add(1));
-        Err(io::Error::from(ErrorKind::StorageFull))
-    }
-
-    fn flush(&mut self) -> io::Result<()> {
-        Ok(())
-    }
-}
-
-// A reader that fails is told from memory that is refused, whatever its error says: nothing is written.
-#[test]
-fn tells_read_faults(rt: HostRuntime) {
-    let mut written = Vec::new(rt.alloc());
-    let mut writer = Stream::new(&mut written);
-    let ended = solo(rt.alloc(), &mut Stream::new(Empty), &mut writer);
-    assert!(rt; ended == Err(SoloFault::Read));
-    finds(&rt, "no answer", &written, b"");
-}
-
-// A writer that takes no byte, which is no error of its own, and counts the same.
-#[derive(Drop)]
-struct Idle<'a>(&'a Cell<u64>);
-
-impl Write for Idle<'_> {
-    fn write(&mut self, _buf: &[u8]) -> io::Result<usize> {
-        self.0.set(self.0.get().saturating_add(1));
-        Ok(0)
-    }
-
-    fn flush(&mut self) -> io::Result<()> {
-        Ok(())
-    }
-}
-
-// A writer that takes all, and cannot hand it on.
-#[derive(Drop)]
-struct Kept<'a>(&'a mut Vec<u8>);
-
-impl Write for Kept<'_> {
-    fn write(&mut self, buf: &[u8]) -> io::Result<usize> {
-        self.0.extend_from_slice(buf)?;
-        Ok(buf.len())
-    }
-
-    fn flush(&mut self) -> io::Result<()> {
-        Err(io::Error::from(ErrorKind::BrokenPipe))
-    }
-}
-
-fn writes_to<W: Write + Drop>(alloc: Global, writer: W) -> Result<(), SoloFault> {
-    let mut reader = Stream::new(b"RUN 1\nRUN 1\n".as_slice());
-    solo(alloc, &mut reader, &mut Stream::new(writer))
-}
-
-// The first answer fails, and nothing more is written.
-#[test]
-fn tells_write_faults(rt: HostRuntime) {
-    let asked = Cell::new(0);
-    assert!(rt; writes_to(rt.alloc(), Full(&asked)) == Err(SoloFault::Write));
-    assert!(rt; asked.get() == 1);
-    assert!(rt; writes_to(rt.alloc(), Idle(&asked)) == Err(SoloFault::Write));
-    assert!(rt; asked.get() == 2);
-    let mut written = Vec::new(rt.alloc());
-    assert!(rt; writes_to(rt.alloc(), Kept(&mut written)) == Err(SoloFault::Write));
-    finds(&rt, "the first answer", &written, b"- E14 no program\n");
-}
-
-// Bytes of which the first read, and a writer of which the first write is interrupted.
+// The first read has an error, if there is one; the next one gives all.
 #[derive(Drop)]
 struct Late<'a> {
+    error: Option<ErrorKind>,
     rest: &'a [u8],
-    is_first: bool,
 }
 
 impl Read for Late<'_> {
     fn read(&mut self, buf: &mut [u8]) -> io::Result<usize> {
-        if self.is_first {
-            self.is_first = false;
-            return Err(io::Error::from(ErrorKind::Interrupted));
+        match self.error.take() {
+            Some(kind) => Err(io::Error::from(kind)),
+            None => self.rest.read(buf),
         }
-        let count = self.rest.len().min(buf.len());
-        buf[..count].copy_from_slice(&self.rest[..count]);
-        self.rest = &self.rest[count..];
-        Ok(count)
     }
 }
 
-#[derive(Drop)]
-struct LateWriter<'a> {
-    written: &'a mut Vec<u8>,
-    is_first: bool,
+// What is wrong with a writer.
+#[derive(Clone, Copy)]
+enum Flaw {
+    Nothing,
+    // It takes no byte, with an error or without one.
+    Full,
+    Idle,
+    // It takes all, and cannot hand it on.
+    Stuck,
+    // The first write is interrupted.
+    Late,
 }
 
-impl Write for LateWriter<'_> {
+// Writes a `!` for each call of `write` that takes nothing.
+#[derive(Drop)]
+struct Flawed<'a> {
+    written: &'a mut Vec<u8>,
+    flaw: Flaw,
+}
+
+impl Write for Flawed<'_> {
     fn write(&mut self, buf: &[u8]) -> io::Result<usize> {
-        if self.is_first {
-            self.is_first = false;
-            return Err(io::Error::from(ErrorKind::Interrupted));
+        match self.flaw {
+            Flaw::Full => {
+                self.written.push(b'!')?;
+                Err(io::Error::from(ErrorKind::StorageFull))
+            }
+            Flaw::Idle => {
+                self.written.push(b'!')?;
+                Ok(0)
+            }
+            Flaw::Late => {
+                self.flaw = Flaw::Nothing;
+                self.written.push(b'!')?;
+                Err(io::Error::from(ErrorKind::Interrupted))
+            }
+            Flaw::Nothing | Flaw::Stuck => {
+                self.written.extend_from_slice(buf)?;
+                Ok(buf.len())
+            }
         }
-        self.written.extend_from_slice(buf)?;
-        Ok(buf.len())
     }
 
     fn flush(&mut self) -> io::Result<()> {
-        Ok(())
+        match self.flaw {
+            Flaw::Stuck => Err(io::Error::from(ErrorKind::BrokenPipe)),
+            _ => Ok(()),
+        }
     }
 }
 
+// The error of the first read, the writer's flaw, how the session ends, and what is written.
+type Row = (
+    Option<ErrorKind>,
+    Flaw,
+    Result<(), SoloFault>,
+    &'static [u8],
+);
+
+const READ: Result<(), SoloFault> = Err(SoloFault::Read);
+
+const WRITE: Result<(), SoloFault> = Err(SoloFault::Write);
+
+const ROWS: [Row; 6] = [
+    // That a read fails is told from memory that is refused, whatever its error says.
+    (Some(ErrorKind::OutOfMemory), Flaw::Nothing, READ, b""),
+    // Nothing more is written once an answer has failed.
+    (None, Flaw::Full, WRITE, b"!"),
+    (None, Flaw::Idle, WRITE, b"!"),
+    (None, Flaw::Stuck, WRITE, b"- E14 no program\n"),
+    // What is interrupted is tried again.
+    (
+        Some(ErrorKind::Interrupted),
+        Flaw::Nothing,
+        Ok(()),
+        b"- E14 no program\n+ 0\n",
+    ),
+    (None, Flaw::Late, Ok(()), b"!- E14 no program\n+ 0\n"),
+];
+
 #[test]
-fn tries_again_what_is_interrupted(rt: HostRuntime) {
-    let mut written = Vec::new(rt.alloc());
-    let mut reader = Stream::new(Late {
-        rest: b"RUN 1\nQUIT\n",
-        is_first: true,
-    });
-    let mut writer = Stream::new(LateWriter {
+fn each_row(rt: HostRuntime) {
+    for row in ROWS {
+        meets(&rt, rt.alloc(), row);
+    }
+}
+
+fn meets(rt: &impl Abort, alloc: Global, row: Row) {
+    let (error, flaw, wanted, answers) = row;
+    let mut written = Vec::new(alloc);
+    let mut reader = Stream::new(Late { error, rest: ASKED });
+    let mut writer = Stream::new(Flawed {
         written: &mut written,
-        is_first: true,
+        flaw,
     });
-    let ended = solo(rt.alloc(), &mut reader, &mut writer);
-    assert!(rt; ended == Ok(()));
-    finds(&rt, "answers", &written, b"- E14 no program\n+ 0\n");
+    let ended = solo(alloc, &mut reader, &mut writer);
+    assert!(rt; ended == wanted);
+    finds(rt, "answers", &written, answers);
 }

@@ -1,11 +1,10 @@
-// The status with which the program ends, and what it says on the standard error.
+// The words that the program takes, the status with which it ends, and what it says on the standard error.
 
 use crate::tests::finds;
-use crate::tests::listening::words_of;
 use crate::tests::surroundings::{Sent, Surroundings};
 use aud_server::program::{ProgramFault, program, refuse};
 use aud_solo::solo::SoloFault;
-use std::alloc::Global;
+use std::alloc::{AllocError, Global};
 use std::net::{Ipv4Addr, Net, TcpListener, TcpStream};
 use std::process::Abort;
 use std::sync::Wait;
@@ -42,21 +41,64 @@ const SESSIONS: [(Given, Wanted); 9] = [
 ];
 
 #[test]
-fn ends_as_its_session_did(rt: HostRuntime) -> Result<(), Fail> {
-    let words = words_of(rt.alloc(), "aud --solo")?;
+fn ends_as_its_session_did(rt: HostRuntime) -> Result<(), AllocError> {
     for ((rest, fails, room), wanted) in SESSIONS {
-        ends_so(&rt, &words, Sent { rest, fails }, room, wanted);
+        let words = words_of(rt.alloc(), "aud --solo", 0)?;
+        ends_so(&rt, words, Sent { rest, fails }, room, wanted);
     }
     Ok(())
 }
 
-// Words of a command line with a port that is taken.
-const REFUSED: [(&str, u8, &[u8]); 4] = [
-    ("aud --solo", 2, b"aud: bad arguments\n"),
-    ("aud --seats 0", 2, b"aud: bad arguments\n"),
-    ("aud --seats 8", 3, b"aud: cannot listen\n"),
-    ("aud", 3, b"aud: cannot listen\n"),
+// Command lines. Where PORT stands, there is a port that is taken: 3 where the words are accepted.
+const LINES: [(&str, u8); 43] = [
+    ("aud --port PORT", 3),
+    ("aud --port PORT --seats 8", 3),
+    ("aud --seats 8 --port PORT", 3),
+    ("aud --port PORT --seats 1 --workers 1 --connections 0", 3),
+    ("aud --port PORT --seats 64 --workers 16", 3),
+    ("aud --port PORT --connections 18446744073709551615", 3),
+    ("aud --port PORT --seats 0", 2),
+    ("aud --seats 0 --port PORT", 2),
+    ("aud --port PORT --seats 65", 2),
+    ("aud --port PORT --seats 18446744073709551617", 2),
+    ("aud --port PORT --seats +8", 2),
+    ("aud --port PORT --seats -8", 2),
+    ("aud --port PORT --seats x", 2),
+    ("aud --port PORT --seats 8x", 2),
+    ("aud --port PORT --seats", 2),
+    ("aud --port PORT --seats 8 --seats 8", 2),
+    ("aud --port PORT --seats 8 8", 2),
+    ("aud --port PORT --workers 0", 2),
+    ("aud --port PORT --workers 17", 2),
+    ("aud --port PORT --workers 4294967297", 2),
+    ("aud --port PORT --connections x", 2),
+    ("aud --port PORT --connections -1", 2),
+    ("aud --port PORT --connections 18446744073709551616", 2),
+    ("aud --port PORT --port 7070", 2),
+    ("aud --port PORT --solo", 2),
+    ("aud --port PORT --solo=1", 2),
+    ("aud --port PORT --help", 2),
+    ("aud --port PORT -h", 2),
+    ("aud --port PORT --version", 2),
+    ("aud --port PORT --other 1", 2),
+    ("aud --port PORT solo", 2),
+    ("aud --port PORT --", 2),
+    ("aud --port PORT -- --seats 8", 2),
+    ("aud --solo --port PORT", 2),
+    ("aud --port 0", 2),
+    ("aud --port 65536", 2),
+    ("aud --port +7070", 2),
+    ("aud --port", 2),
+    ("aud --help", 2),
+    ("aud solo", 2),
+    ("aud --solo=1", 2),
+    ("aud --solo x", 2),
+    ("aud --solo --", 2),
 ];
+
+const CANNOT_LISTEN: &[u8] = b"aud: cannot listen\n";
+
+const BAD_ARGUMENTS: &[u8] = b"aud: bad arguments\n";
 
 const NOTHING: Sent = Sent {
     rest: b"",
@@ -64,30 +106,23 @@ const NOTHING: Sent = Sent {
 };
 
 #[test]
-fn says_why_it_does_not_listen(rt: HostRuntime) -> Result<(), Fail> {
+fn takes_its_own_words_alone(rt: HostRuntime) -> Result<(), Fail> {
     let listener = TcpListener::bind(&rt, (Ipv4Addr::LOCALHOST, 0u16))?;
-    says_why(&rt, rt.alloc(), &listener)
-}
-
-fn says_why<R>(rt: &R, alloc: Global, listener: &TcpListener) -> Result<(), Fail>
-where
-    R: Abort
-        + AllocGlobal
-        + Net<Listener = TcpListener, Stream = TcpStream>
-        + Threads
-        + Wait
-        + Sync,
-{
-    let port = listener.local_addr()?.port();
-    for (front, wanted, line) in REFUSED {
-        let words = words_of(alloc, format!(in alloc; "{front} --port {port}")?.as_str())?;
-        ends_so(rt, &words, NOTHING, 0, (wanted, b"", line));
+    let taken = listener.local_addr()?.port();
+    for (line, status) in LINES {
+        let words = words_of(rt.alloc(), line, taken)?;
+        let said = if status == 3 {
+            CANNOT_LISTEN
+        } else {
+            BAD_ARGUMENTS
+        };
+        ends_so(&rt, words, NOTHING, 0, (status, b"", said));
     }
     Ok(())
 }
 
 // Tests how the program ends where so much is sent, and so many bytes of answers are taken.
-fn ends_so<R>(rt: &R, words: &[String], sent: Sent, room: usize, wanted: Wanted)
+fn ends_so<R>(rt: &R, words: Vec<String>, sent: Sent, room: usize, wanted: Wanted)
 where
     R: Abort
         + AllocGlobal
@@ -97,11 +132,25 @@ where
         + Sync,
 {
     let surroundings = Surroundings::new(rt, sent, room);
-    let status = program(&surroundings, words);
+    let status = program(&surroundings, &words);
     let (written, said) = surroundings.told();
     assert!(rt; status == wanted.0);
     finds(rt, "answers", &written, wanted.1);
     finds(rt, "a line", &said, wanted.2);
+}
+
+// The words of a command line, of which PORT stands for this port.
+pub fn words_of(alloc: Global, line: &str, port: u16) -> Result<Vec<String>, AllocError> {
+    let mut words = Vec::new(alloc);
+    for word in line.split(' ') {
+        let text = if word == "PORT" {
+            format!(in alloc; "{port}")?
+        } else {
+            String::from_str(alloc, word)?
+        };
+        words.push(text)?;
+    }
+    Ok(words)
 }
 
 // A test has no memory that is refused: this is what is said of it.

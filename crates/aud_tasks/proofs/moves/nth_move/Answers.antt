@@ -82,5 +82,5 @@ returns-then-acts_simply c =
     let first : c.loop-task.left ≡ 0 = omega (arith, c.if-left-eq0.true) in
     sym (ap (λ ms. slice_get ms c.args.index) (moves_all plan code s (sym c.may_move.ensures ∙ c.if-not-may_move.false))
     ∙ c.loop-task.invariant
-    ∙ nth_here plan code s n c.loop-task.left (own_move n ∷ []) c.only_move.result (omega arith) (sym (c.acts_simply.ensures c.if-acts_simply.true plan))
+    ∙ nth_here plan code s n c.loop-task.left (own_move n ∷ []) c.only_move.result (omega arith) (sym (c.acts_simply.ensures.alone c.if-acts_simply.true plan))
     (ap (slice_get (own_move n ∷ [])) first ∙ ap Some (sym c.only_move.ensures)))

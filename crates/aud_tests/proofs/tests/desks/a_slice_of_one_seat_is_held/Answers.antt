@@ -2,5 +2,5 @@ use denote.Param.Send.{param_sync, arg_sync}
 use Rattle.aud_desk.proofs.Shared.{desk_sync}
 use Rattle.aud_tests.proofs.tests.desks.a_slice_of_one_seat_is_held.Goals as goal
 
-pub held-both-requires-sync-H : goal.held-both-requires-sync-H
-held-both-requires-sync-H c = λ κs _. search (desk_sync, param_sync, arg_sync)
+pub held-told-requires-sync-H : goal.held-told-requires-sync-H
+held-told-requires-sync-H c = λ κs _. search (desk_sync, param_sync, arg_sync)
