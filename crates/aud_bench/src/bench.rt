@@ -30,7 +30,7 @@ pub enum GiveFault {
 }
 
 /// What a slice did: units of work, and the requests that are given and unanswered.
-#[derive(Clone, Copy, PartialEq, Eq)]
+#[derive(Clone, Copy)]
 pub struct Work {
     pub done: u64,
     pub left: usize,

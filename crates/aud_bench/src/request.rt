@@ -124,7 +124,7 @@ impl Eq for Request {
 }
 
 /// Why a request is malformed.
-#[derive(Clone, Copy, PartialEq, Eq)]
+#[derive(Clone, Copy)]
 pub enum BadRequest {
     /// Its first word is no command.
     UnknownCommand,

@@ -1,12 +1,11 @@
 -- Arms, handlers, accepts and alternatives in memory, and what holds them, by their parts.
-use Rattle.std.specs.Prelude.{ℕ, Bool, true, false, List, [], ◌∷◌, ◌++◌, Option, Some, Vec, map}
+use Rattle.std.specs.Prelude.{ℕ, Bool, true, false, List, [], ◌∷◌, ◌++◌, Option, Some, Vec, Box, map}
 use Rattle.std.specs.Global.{Global}
 use Rattle.std.proofs.Common.{◌≡◌, refl, sym, ap, ◌∙◌}
 use Rattle.aud_text.specs.declared.place.Pos.{Pos}
 use Rattle.aud_typed.specs.declared.program.Arm.{Arm}
 use Rattle.aud_typed.specs.declared.program.Handler.{Handler}
 use Rattle.aud_typed.specs.declared.program.Statement.{Statement}
-use Rattle.aud_typed.specs.declared.program.Statement.TheVariants.{Null}
 use Rattle.aud_typed.specs.declared.program.Statements.{Statements, roll-Statements}
 use Rattle.aud_typed.specs.declared.program.IfStatement.{roll-IfStatement, out-roll-IfStatement}
 use Rattle.aud_typed.specs.declared.program.Body.{roll-Body, out-roll-Body}
@@ -19,7 +18,7 @@ use Rattle.aud_typed.specs.declared.program.Alternative.{Alternative}
 use Rattle.aud_typed.specs.declared.program.Alternative.TheVariants as variant
 use Rattle.aud_typed.specs.declared.program.Body as memory_body
 use Rattle.aud_typed.specs.Tree as tree
-use Rattle.aud_typed.specs.Ties.View.{plain_boolean, plain_delay, plain_statements, plain_body, plain_accept, plain_alternative as plain_offered, statements_in, part_of_arms, handlers_in, if_in, doing_in, alternatives_in}
+use Rattle.aud_typed.specs.Ties.View.{plain_boolean, plain_delay, plain_statement, plain_statements, plain_body, plain_accept, plain_alternative as plain_offered, statements_in, part_of_arms, handlers_in, if_in, doing_in, alternatives_in}
 use Rattle.aud_typed.proofs.Opened.{body_open, accept_open, accept_alternative_open, delay_alternative_open}
 use Rattle.aud_check_bodies.specs.Accepts.{TypedAccept}
 use Rattle.aud_check_bodies.specs.Selects.{TypedAlternative, accepts, delays, terminates, alternative_then, alternatives_of}
@@ -44,12 +43,13 @@ body_parts declarations begin activates statements handlers end =
     body_open (roll-Body (record { declarations = declarations; begin = begin; activates = activates; statements = statements; handlers = handlers; end = end })) ∙ rw out-roll-Body refl
 
 -- one in which there is nothing
-pub empty_body : (at : Pos) (declarations others : Vec Statement Global) (handlers : Vec Handler Global) → declarations.items ≡ [] → others.items ≡ [] → handlers.items ≡ []
-    → plain_body (roll-Body (record { declarations = declarations; begin = at; activates = false; statements = roll-Statements (record { first = Null at; others = others }); handlers = handlers; end = at })) ≡ tree.body tree.nothing at (tree.null at) tree.no_handlers at
-empty_body at declarations others handlers d o h =
-    let made : List Statement → List Statement → List Handler → tree.Body = λ ds ss hs. tree.body (tree.part_of (plain_statements ds ++ [])) at (tree.before (tree.null at) (plain_statements ss)) (handlers_in hs) at in
-    body_parts declarations at false (roll-Statements (record { first = Null at; others = others })) handlers at
-    ∙ ap (λ ds. made ds others.items handlers.items) d ∙ ap (λ ss. made [] ss handlers.items) o ∙ ap (made [] []) h
+pub empty_body : (at : Pos) (first : Box Statement Global) (declarations others : Vec Statement Global) (handlers : Vec Handler Global) → plain_statement first.value ≡ tree.null at → declarations.items ≡ [] → others.items ≡ [] → handlers.items ≡ []
+    → plain_body (roll-Body (record { declarations = declarations; begin = at; activates = false; statements = roll-Statements (record { first = first; others = others }); handlers = handlers; end = at })) ≡ tree.body tree.nothing at (tree.null at) tree.no_handlers at
+empty_body at first declarations others handlers f d o h =
+    let made : tree.Statement → List Statement → List Statement → List Handler → tree.Body = λ s ds ss hs. tree.body (tree.part_of (plain_statements ds ++ [])) at (tree.before s (plain_statements ss)) (handlers_in hs) at in
+    body_parts declarations at false (roll-Statements (record { first = first; others = others })) handlers at
+    ∙ ap (λ s. made s declarations.items others.items handlers.items) f ∙ ap (λ ds. made (tree.null at) ds others.items handlers.items) d
+    ∙ ap (λ ss. made (tree.null at) [] ss handlers.items) o ∙ ap (made (tree.null at) [] []) h
 
 -- accepts
 

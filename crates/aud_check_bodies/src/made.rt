@@ -84,7 +84,6 @@ pub fn in_order(alloc: Global, first: Box<Statement>, others: Vec<Statement>) ->
     ensures { IfOk result (λ typed. plain_sequence typed.value
         ≡ record { first = plain_statement first.value; others = plain_items others }) }
 {
-    let first = Box::into_inner(first);
     boxed(alloc, Statements { first, others })
 }
 
@@ -96,7 +95,7 @@ pub fn in_row(statements: Box<Statements>) -> Made<Vec<Statement>>
 {
     let Statements { first, others } = Box::into_inner(statements);
     let mut row = others;
-    row.insert(0, first)?;
+    row.insert(0, Box::into_inner(first))?;
     Ok(row)
 }
 

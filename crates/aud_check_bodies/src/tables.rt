@@ -7,6 +7,7 @@ ghost use Rattle.aud_check_bodies.specs.Tables.{no_tables, next_region, with_reg
 ghost use Rattle.aud_names.specs.Ties.Regions.{plain_region};
 ghost use Rattle.aud_check_bodies.specs.Ties.Tables.{plain_tables};
 
+use crate::made::null_at;
 use aud_names::array::length_between;
 use aud_names::behind::Made;
 use aud_names::names::{Meaning, NamedParameter, Object, Region, Scope};
@@ -109,7 +110,7 @@ impl Tables {
             ≡ unit_kept profile.items (plain_tables self.old)) }
     {
         self.profiles.push(profile)?;
-        self.units.push(no_body(alloc))?;
+        self.units.push(no_body(alloc)?)?;
         Ok(())
     }
 
@@ -244,11 +245,12 @@ fn body_unit(body: &Option<EntryBody>) -> usize
 }
 
 // What stands in the place of a unit whose body is not checked yet.
-fn no_body(alloc: Global) -> Unit
-    ensures { plain_unit result ≡ no_body }
+fn no_body(alloc: Global) -> Made<Unit>
+    ensures { IfOk result (λ unit. plain_unit unit ≡ no_body) }
 {
     let at = Pos { line: 0, col: 0 };
-    Unit {
+    let first = null_at(alloc, at)?;
+    Ok(Unit {
         level: 0,
         region: 0,
         is_function: false,
@@ -258,13 +260,13 @@ fn no_body(alloc: Global) -> Unit
             begin: at,
             activates: false,
             statements: Statements {
-                first: Statement::Null(at),
+                first,
                 others: Vec::new(alloc),
             },
             handlers: Vec::new(alloc),
             end: at,
         },
-    }
+    })
 }
 
 fn shown_of(subtype: Option<Subtype>) -> Shown

@@ -11,7 +11,7 @@ use crate::instruction::Instruction;
 use crate::line::{Among, Ending, Last};
 
 /// How many Integers, truth values, targets and tasks that are named; and whether the cells of an object have begun.
-#[derive(Clone, Copy, PartialEq, Eq)]
+#[derive(Clone, Copy)]
 pub struct Counts {
     pub integers: usize,
     pub booleans: usize,

@@ -7,7 +7,7 @@ use aud_text::place::Pos;
 use aud_typed::program::{Exception, Subtype, Tasks, Variable};
 
 /// A way out of loops or a body: the place, and how many loops' frames are left at once.
-#[derive(Clone, Copy, PartialEq, Eq)]
+#[derive(Clone, Copy)]
 pub struct Way {
     pub to: usize,
     pub loops: usize,
@@ -15,7 +15,7 @@ pub struct Way {
 
 /// A `for` loop (RM 5.5): where it begins and where its `for` stands, the number of its parameter's table, and whether it goes
 /// from the last value to the first.
-#[derive(Clone, Copy, PartialEq, Eq)]
+#[derive(Clone, Copy)]
 pub struct ForLoop {
     pub at: Pos,
     pub next_at: Pos,
@@ -24,7 +24,7 @@ pub struct ForLoop {
 }
 
 /// What a statement's step does with its operands.
-#[derive(Clone, Copy, PartialEq, Eq)]
+#[derive(Clone, Copy)]
 pub enum Ending {
     /// The next variable of the innermost frame has the newest Integer. While fewer than `up_to` of them are elaborated, the
     /// step leads to the place where it began, `again` (RM 3.3.1(7)).
@@ -70,7 +70,7 @@ pub struct Guard {
 }
 
 /// How an entry is called (RM 9.5.3, 9.7.2, 9.7.3).
-#[derive(Clone, Copy, PartialEq, Eq)]
+#[derive(Clone, Copy)]
 pub enum CallKind {
     Plain,
     Conditional,
@@ -79,7 +79,7 @@ pub enum CallKind {
 
 /// Where a selective accept leads by one of its alternatives: behind the alternative, and to what its accept does, which is the
 /// same place where that does nothing.
-#[derive(Clone, Copy, PartialEq, Eq)]
+#[derive(Clone, Copy)]
 pub struct Offer {
     pub behind: usize,
     pub body: usize,

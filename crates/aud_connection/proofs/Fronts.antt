@@ -5,11 +5,11 @@ use Rattle.aud_bench.specs.declared.request.Request.{Request}
 use Rattle.aud_bench.specs.declared.request.Answer.{Answer}
 use Rattle.aud_bench.specs.Alone.{alone}
 use Rattle.aud_bench.proofs.Sessions.{alone_front}
-use Rattle.aud_desk.proofs.Overs.{front_more}
-use Rattle.aud_desk.specs.declared.fault.DeskFault.{DeskFault}
-use Rattle.aud_desk.specs.declared.fault.DeskFault.TheVariants as fault
-use Rattle.aud_desk.specs.Passed.{IsFront, Passed}
-use Rattle.aud_desk.specs.Replies.{IsLost, HasNoSeat, OpensNot, FitsBy}
+use Rattle.aud_pass.proofs.Overs.{front_more}
+use Rattle.aud_pass.specs.declared.fault.DeskFault.{DeskFault}
+use Rattle.aud_pass.specs.declared.fault.DeskFault.TheVariants as fault
+use Rattle.aud_pass.specs.Passed.{IsFront, Passed}
+use Rattle.aud_pass.specs.Replies.{IsLost, HasNoSeat, OpensNot, FitsBy}
 use Rattle.aud_connection.specs.Told.{Told, Answered, Faulted, all_answered, are_answers, AreLost}
 use Rattle.aud_connection.specs.Served.{Begins}
 use Rattle.aud_connection.specs.Ties.Visits.{Ends}

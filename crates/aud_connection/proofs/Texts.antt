@@ -3,8 +3,8 @@ use Rattle.std.proofs.Common.{◌≡◌, ℕ, List, [], ◌∷◌, ◌++◌, Boo
 use Rattle.aud_bench.specs.declared.request.Request.{Request}
 use Rattle.aud_bench.specs.declared.request.Request.TheVariants as request
 use Rattle.aud_bench.specs.declared.request.Answer.{Answer}
-use Rattle.aud_desk.specs.declared.fault.DeskFault.{DeskFault}
-use Rattle.aud_desk.specs.declared.fault.DeskFault.TheVariants.{NotClaimed}
+use Rattle.aud_pass.specs.declared.fault.DeskFault.{DeskFault}
+use Rattle.aud_pass.specs.declared.fault.DeskFault.TheVariants.{NotClaimed}
 use Rattle.aud_connection.specs.Told.{Told, Answered, Faulted, told_text, told_texts, all_answered, are_answers, IsRefused, AreRefused}
 
 pub texts_more : (told : List Told) (t : Told) → told_texts (told ++ t ∷ []) ≡ told_texts told ++ told_text t

@@ -12,7 +12,7 @@ use Rattle.aud_bench.specs.Size.{bytes_of}
 use Rattle.aud_bench.proofs.Journals.{last_quits}
 use Rattle.aud_bench.proofs.Sessions.{unfit_goes_on}
 use Rattle.aud_lines.specs.Text.{answer_text}
-use Rattle.aud_desk.specs.Passed.{Passed}
+use Rattle.aud_pass.specs.Passed.{Passed}
 use Rattle.aud_solo.specs.Streams.{AppendsFront}
 use Rattle.aud_solo.proofs.SoloLaws.{appends_none, appends_more}
 use Rattle.aud_connection.specs.declared.visit.Visit.{Visit}

@@ -9,7 +9,7 @@ use Rattle.aud_bench.specs.declared.request.Request.TheVariants.{Seat}
 use Rattle.aud_bench.specs.declared.request.Answer.{Answer}
 use Rattle.aud_bench.specs.declared.request.Answer.TheVariants.{Done, Refused}
 use Rattle.aud_bench.specs.Alone.{alone}
-use Rattle.aud_desk.specs.Passed.{IsFront}
+use Rattle.aud_pass.specs.Passed.{IsFront}
 use Rattle.aud_lines.specs.Requests.{requests}
 use Rattle.aud_lines.specs.Text.{answer_text}
 use Rattle.aud_solo.specs.declared.solo.SoloFault.{SoloFault}

@@ -3,9 +3,9 @@ use Rattle.std.specs.Prelude.{◌≡◌, ℕ, List, [], ◌∷◌, ◌++◌, Boo
 use Rattle.aud_bench.specs.declared.request.Request.{Request}
 use Rattle.aud_bench.specs.declared.request.Request.TheVariants as request
 use Rattle.aud_bench.specs.declared.request.Answer.{Answer}
-use Rattle.aud_desk.specs.declared.fault.DeskFault.{DeskFault}
-use Rattle.aud_desk.specs.declared.fault.DeskFault.TheVariants as fault
-use Rattle.aud_desk.specs.Replies.{IsLost, HasNoSeat}
+use Rattle.aud_pass.specs.declared.fault.DeskFault.{DeskFault}
+use Rattle.aud_pass.specs.declared.fault.DeskFault.TheVariants as fault
+use Rattle.aud_pass.specs.Replies.{IsLost, HasNoSeat}
 use Rattle.aud_lines.specs.Text.{answer_text, line_end}
 
 -- an answer, or that the desk refuses the request

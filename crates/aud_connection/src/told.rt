@@ -3,7 +3,7 @@
 ghost use Rattle.std.specs.Prelude.{◌≡◌, IfOk};
 ghost use Rattle.aud_connection.specs.Told.{fault_text};
 
-use aud_desk::fault::DeskFault;
+use aud_pass::fault::DeskFault;
 use std::alloc::{AllocError, Global};
 
 /// The text of a fault: `-`, its code and why.

@@ -5,15 +5,15 @@ ghost use Rattle.aud_bench.specs.Alone.{is_quit};
 ghost use Rattle.aud_solo.specs.declared.solo.SoloFault.TheVariants as fault;
 ghost use Rattle.aud_connection.specs.Told.{Told, told_text};
 ghost use Rattle.aud_connection.specs.Ties.Visits.{Finishes, Converses, Admits, Replies};
-ghost use Rattle.aud_desk.specs.Replies.{IsWhole};
+ghost use Rattle.aud_pass.specs.Replies.{IsWhole};
 
 use crate::told::fault_text;
 use aud_bench::journal::is_quit;
 use aud_bench::request::{Answer, Request};
 use aud_desk::desk::Desk;
-use aud_desk::fault::DeskFault;
-use aud_desk::pass::Pass;
 use aud_lines::answers::answer_text;
+use aud_pass::fault::DeskFault;
+use aud_pass::pass::Pass;
 use aud_solo::solo::SoloFault;
 use aud_text::refusal::Refusal;
 use std::alloc::Global;

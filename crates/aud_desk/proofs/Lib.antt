@@ -1,7 +1,2 @@
-pub mod Overs
-pub mod Places
-pub mod Passes
-pub mod Fitting
-pub mod Looks
 pub mod Shared
 pub mod Working

@@ -1,17 +1,17 @@
 // The desk: what many threads share.
 
 ghost use Rattle.std.specs.Prelude.{◌≡◌, ◌++◌, [], ◌∷◌, IfOk, IfErr, OnOk, OnErr};
-ghost use Rattle.aud_desk.specs.Passed.{Passed, IsGot, IsOpened};
-ghost use Rattle.aud_desk.specs.Replies.{Collects, IsNotBusy, IsLost, OpensNot, Tells};
+ghost use Rattle.aud_pass.specs.Passed.{Passed, IsGot, IsOpened};
+ghost use Rattle.aud_pass.specs.Replies.{Collects, IsNotBusy, IsLost, OpensNot, Tells};
 
-use crate::fault::DeskFault;
 use crate::gate::{Direct, Gate, work_off};
-use crate::got::Got;
-use crate::pass::Pass;
-use crate::sections::{close_in, collect_in, open_in, return_in, submit_in};
 use aud_bench::request::Request;
 use aud_hall::hall::Hall;
 use aud_hall::parcel::Parcel;
+use aud_pass::fault::DeskFault;
+use aud_pass::got::Got;
+use aud_pass::pass::Pass;
+use aud_pass::sections::{close_in, collect_in, open_in, return_in, submit_in};
 use crossbeam_channel::{Receiver, Sender};
 use std::alloc::{AllocError, Global};
 use std::array;

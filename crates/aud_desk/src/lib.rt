@@ -2,8 +2,4 @@
 #![tactic(auto)]
 
 pub mod desk;
-pub mod fault;
 pub mod gate;
-pub mod got;
-pub mod pass;
-pub mod sections;

@@ -34,35 +34,35 @@ use aud_text::raise::Raise;
 use std::alloc::AllocError;
 
 /// How an evaluation ended, and how many instructions it executed.
-#[derive(Clone, Copy, PartialEq, Eq)]
+#[derive(Clone, Copy)]
 pub struct Evaluation {
     pub outcome: Outcome,
     pub ticks: u64,
 }
 
 /// How an evaluation ends: at the place of the step's ending, or by an exception.
-#[derive(Clone, Copy, PartialEq, Eq)]
+#[derive(Clone, Copy)]
 pub enum Outcome {
     Reaches(usize),
     Fails(Raise),
 }
 
 /// What a barrier is, or the exception that its evaluation raises, and how many instructions it executed.
-#[derive(Clone, Copy, PartialEq, Eq)]
+#[derive(Clone, Copy)]
 pub struct Decision {
     pub met: Result<bool, Raise>,
     pub ticks: u64,
 }
 
 // How an evaluation ends that may stop at the mark, and how many instructions it executed.
-#[derive(Clone, Copy, PartialEq, Eq)]
+#[derive(Clone, Copy)]
 struct Halted {
     halt: Halt,
     ticks: u64,
 }
 
 /// How an evaluation ends that may stop at the mark: elsewhere, or there.
-#[derive(Clone, Copy, PartialEq, Eq)]
+#[derive(Clone, Copy)]
 enum Halt {
     Ends(Outcome),
     Marks,

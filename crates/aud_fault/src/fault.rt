@@ -9,14 +9,14 @@ use aud_text::refusal::Refusal;
 use std::marker::Model;
 
 /// A breach of a rule of the language: where it stands, and which it is.
-#[derive(Clone, Copy, PartialEq, Eq, Debug)]
+#[derive(Clone, Copy, Debug)]
 pub struct Fault {
     pub at: Pos,
     pub refusal: Refusal,
 }
 
 /// The first of the faults that were noted, if there were any.
-#[derive(Clone, Copy, PartialEq, Eq)]
+#[derive(Clone, Copy)]
 pub struct Least {
     first: Option<Fault>,
 }

@@ -50,9 +50,9 @@ mutual
   statement_activates declares (Assign at r e) = tt
   statement_activates declares (Put at t) = tt
   statement_activates declares (If' _ s) = if_activates declares s
-  statement_activates declares (While' at c _ first _ others) = before_activates false (plain_statement first) (plain_row others) (statement_activates false first) (row_activates false others)
-  statement_activates declares (Loop' _ first _ others) = before_activates false (plain_statement first) (plain_row others) (statement_activates false first) (row_activates false others)
-  statement_activates declares (For' _ at next_at region backward a b first _ others) = before_activates false (plain_statement first) (plain_row others) (statement_activates false first) (row_activates false others)
+  statement_activates declares (While' at c _ _ first _ others) = before_activates false (plain_statement first) (plain_row others) (statement_activates false first) (row_activates false others)
+  statement_activates declares (Loop' _ _ first _ others) = before_activates false (plain_statement first) (plain_row others) (statement_activates false first) (row_activates false others)
+  statement_activates declares (For' _ at next_at region backward a b _ first _ others) = before_activates false (plain_statement first) (plain_row others) (statement_activates false first) (row_activates false others)
   statement_activates declares (Exit at n c) = tt
   statement_activates declares (Raise at x) = tt
   statement_activates declares (RaiseAgain at) = tt
@@ -73,14 +73,14 @@ mutual
   row_activates declares (more_of-Statement s rest) = (statement_activates declares s, row_activates declares rest)
 
   if_activates : (declares : Bool) (s : IfStatement) → StatementActivates declares (plain_if s)
-  if_activates declares (IfStatement' at c first _ others _ arms _ otherwise) = (
+  if_activates declares (IfStatement' at c _ first _ others _ arms _ otherwise) = (
     before_activates false (plain_statement first) (plain_row others) (statement_activates false first) (row_activates false others),
     arms_activate arms (part_of (plain_row otherwise)) (part_activates false (plain_row otherwise) (row_activates false otherwise)),
   )
 
   arms_activate : {n : _} (arms : Row_of-Arm n) (otherwise : Part) → PartActivates false otherwise → PartActivates false (plain_arms arms otherwise)
   arms_activate end_of-Arm otherwise k = k
-  arms_activate (more_of-Arm at c first _ others rest) otherwise k = (
+  arms_activate (more_of-Arm at c _ first _ others rest) otherwise k = (
     before_activates false (plain_statement first) (plain_row others) (statement_activates false first) (row_activates false others),
     arms_activate rest otherwise k,
   )
@@ -109,13 +109,13 @@ mutual
 
   handlers_activate : {n : _} (row : Row_of-Handler n) → HandlersActivate (plain_handlers row)
   handlers_activate end_of-Handler = tt
-  handlers_activate (more_of-Handler others choices first _ more rest) = (
+  handlers_activate (more_of-Handler others choices _ first _ more rest) = (
     before_activates false (plain_statement first) (plain_row more) (statement_activates false first) (row_activates false more),
     handlers_activate rest,
   )
 
   body_activates : (b : Body) → BodyActivates (plain_body b)
-  body_activates (Body' _ declarations begin activates first _ others _ handlers end) = (
+  body_activates (Body' _ declarations begin activates _ first _ others _ handlers end) = (
     part_activates true (plain_row declarations ++ activation activates begin) (activation_behind (plain_row declarations) activates begin (row_activates true declarations)),
     (
       before_activates false (plain_statement first) (plain_row others) (statement_activates false first) (row_activates false others),

@@ -1,7 +1,7 @@
 // What is to be done for a seat.
 
 /// Whether a seat that took a parcel in has work for another one.
-#[derive(Clone, Copy, PartialEq, Eq)]
+#[derive(Clone, Copy)]
 pub enum Next {
     /// A stored request is unanswered.
     More,

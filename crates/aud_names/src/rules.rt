@@ -14,7 +14,7 @@ use aud_text::refusal::Refusal;
 use aud_typed::program::Subtype;
 
 /// The types that places ask.
-#[derive(Clone, Copy, PartialEq, Eq)]
+#[derive(Clone, Copy)]
 pub enum Base {
     /// Integer (RM 3.5.4).
     Whole,

@@ -85,17 +85,17 @@ others_items : (xs : List Statement) → more_statements (list_item statement_it
 others_items [] = refl
 others_items (x ∷ xs) = ap (λ z. m.more_statements (plain_statement x) z) (others_items xs)
 
-pub statements_items : (x : Statement) (v : Vec Statement Global) (ds : List Item) → made g.StatementList (statement_item x ∷ list_item statement_item v.items ∷ ds) ≡ statements_item (record { first = x; others = v }) ∷ ds
-statements_items x v ds = ap (λ z. some_statements (m.in_order (plain_statement x) z) ∷ ds) (others_items v.items)
+pub statements_items : (x : Box Statement Global) (v : Vec Statement Global) (ds : List Item) → made g.StatementList (boxed_statement_item x ∷ list_item statement_item v.items ∷ ds) ≡ statements_item (record { first = x; others = v }) ∷ ds
+statements_items x v ds = ap (λ z. some_statements (m.in_order (plain_statement x.value) z) ∷ ds) (others_items v.items)
 
 -- statements of the parts that were read
 
 pub boxed_items : (b : Box Statement Global) (x : Statement) (ds : List Item) → b.value ≡ x → statement_item x ∷ ds ≡ boxed_statement_item b ∷ ds
 boxed_items b x ds h = ap (λ z. statement_item z ∷ ds) (sym h)
 
-pub in_order_items : (b : Box Statements Global) (first : Box Statement Global) (others : Vec Statement Global) (ds : List Item) → b.value ≡ record { first = first.value; others = others } →
+pub in_order_items : (b : Box Statements Global) (first : Box Statement Global) (others : Vec Statement Global) (ds : List Item) → b.value ≡ record { first = first; others = others } →
     made g.StatementList (boxed_statement_item first ∷ list_item statement_item others.items ∷ ds) ≡ boxed_statements_item b ∷ ds
-in_order_items b first others ds h = statements_items first.value others ds ∙ ap (λ z. statements_item z ∷ ds) (sym h)
+in_order_items b first others ds h = statements_items first others ds ∙ ap (λ z. statements_item z ∷ ds) (sym h)
 
 pub arm_items : (b : Box Arm Global) (at : Pos) (first : Item) (e : Box Expression Global) (x : Box Statements Global) (ds : List Item) → b.value ≡ record { at = at; condition = e.value; statements = x.value } → at ≡ place first →
     made g.Elsif (first ∷ boxed_item expression_item e ∷ boxed_statements_item x ∷ ds) ≡ boxed_arm_item b ∷ ds

@@ -70,9 +70,8 @@ pub fn in_order(
     first: Box<Statement>,
     others: Vec<Statement>,
 ) -> Result<Box<Statements>, AllocError>
-    ensures { IfOk result (λ b. b.value ≡ record { first = first.value; others = others }) }
+    ensures { IfOk result (λ b. b.value ≡ record { first = first; others = others }) }
 {
-    let first = Box::into_inner(first);
     boxed(alloc, Statements { first, others })
 }
 
@@ -119,7 +118,7 @@ pub fn else_part(
         return Ok(Vec::new(alloc));
     };
     let Statements { first, mut others } = Box::into_inner(inner);
-    others.insert(0, first)?;
+    others.insert(0, Box::into_inner(first))?;
     Ok(others)
 }
 

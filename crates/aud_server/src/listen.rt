@@ -20,7 +20,7 @@ use std::thread::Threads;
 use std::time::Duration;
 
 /// Why the program listens no longer.
-#[derive(Clone, Copy, PartialEq, Eq)]
+#[derive(Clone, Copy)]
 pub enum ListenFault {
     /// The port cannot be listened on, or a connection not be accepted.
     Listen,

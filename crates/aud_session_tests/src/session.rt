@@ -23,7 +23,7 @@ pub struct Session {
 }
 
 /// Why a text has no sessions. Its lines are counted from 1.
-#[derive(Clone, Copy, PartialEq, Eq, Debug)]
+#[derive(Clone, Copy, Debug)]
 pub enum LineFault {
     Memory,
     /// The line of this number begins with none of these signs, or no session was named before it.

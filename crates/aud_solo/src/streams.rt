@@ -9,7 +9,7 @@ ghost use Rattle.aud_solo.specs.Ties.Fuses.{IsOneCallOn};
 use std::io::{self, ErrorKind, Read, Write};
 
 /// That a read or a write failed.
-#[derive(Clone, Copy, PartialEq, Eq)]
+#[derive(Clone, Copy)]
 pub struct Failed;
 
 /// What bytes are read from. It tells them, where they are known, and counts its calls and those that failed. A count begins

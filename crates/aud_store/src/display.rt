@@ -9,7 +9,7 @@ use std::alloc::{AllocError, Global};
 use std::marker::Model;
 
 /// What a frame's number stands in place of.
-#[derive(Clone, Copy, PartialEq, Eq)]
+#[derive(Clone, Copy)]
 pub enum Replaced {
     /// The number that stood there before, if one did. So many frames were seen.
     Among { number: Option<usize>, seen: usize },

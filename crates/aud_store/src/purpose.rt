@@ -11,7 +11,7 @@ use aud_text::int32::Int32;
 
 /// What the end of a procedure or function does: so many formals are copied back; a function's value is assigned to the
 /// target that its call found, if it found one, once a return statement has given it.
-#[derive(Clone, Copy, PartialEq, Eq)]
+#[derive(Clone, Copy)]
 pub struct Returns {
     pub is_function: bool,
     pub backs: usize,
@@ -20,7 +20,7 @@ pub struct Returns {
 }
 
 /// What a frame was opened for.
-#[derive(Clone, Copy, PartialEq, Eq)]
+#[derive(Clone, Copy)]
 pub enum Purpose {
     Body,
     Block,

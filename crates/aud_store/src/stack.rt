@@ -29,7 +29,7 @@ use std::marker::Model;
 
 /// An open frame: its number, the table of its variables, how many of their names are elaborated; the exception that its
 /// construct handles; the place of the statement that opened it, and what for; what its number stands in place of.
-#[derive(Clone, Copy, PartialEq, Eq)]
+#[derive(Clone, Copy)]
 pub struct Open {
     pub frame: usize,
     pub region: usize,

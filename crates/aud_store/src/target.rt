@@ -7,7 +7,7 @@ use aud_typed::program::Subtype;
 use std::marker::Model;
 
 /// A variable that was found: the number of its frame, its cell there, and its subtype.
-#[derive(Clone, Copy, PartialEq, Eq)]
+#[derive(Clone, Copy)]
 pub struct Target {
     frame: usize,
     index: usize,
@@ -55,7 +55,7 @@ impl Target {
 }
 
 /// A formal, by its number, that is copied back, and where to (RM 6.4.1(17)).
-#[derive(Clone, Copy, PartialEq, Eq)]
+#[derive(Clone, Copy)]
 pub struct Back {
     formal: usize,
     target: Target,

@@ -130,14 +130,14 @@ others_are : (v : Vec Statement Global) → plain_row (hidden-the_row-Statement-
 others_are v = statement_rows _ (hidden-the_row-Statement-0 v) ∙ ap plain_others (items_hidden-the_row-Statement-0 v)
 
 pub loop_open : (x : Box LoopStatement Global) → plain_statement (Loop x) ≡ plain_loop_statement x.value
-loop_open x = ap (λ z. m.loop x.value.label x.value.at (plain_iteration x.value.iteration) (m.in_order (plain_statement x.value.statements.first) z) x.value.name x.value.semicolon) (others_are x.value.statements.others)
+loop_open x = ap (λ z. m.loop x.value.label x.value.at (plain_iteration x.value.iteration) (m.in_order (plain_statement x.value.statements.first.value) z) x.value.name x.value.semicolon) (others_are x.value.statements.others)
 
 statements_shown : (shape : Vec (Unit {0}) Global) (row : Row_of-Statement (list_count (this {0}) shape.items 0)) → plain_row row ≡ plain_others (shown-the_row-Statement-0 shape row).items
 statements_shown shape row = statement_rows _ row ∙ ap plain_others (sym (items_shown-the_row-Statement-0 shape row))
 
 arm_rows : (n : _) (row : Row_of-Arm n) → plain_arms row ≡ arm_list (items-the_row-Arm n row)
 arm_rows n end_of-Arm = refl
-arm_rows n (more_of-Arm at e first shape others row) =
+arm_rows n (more_of-Arm at e _ first shape others row) =
     ap (λ z. m.more_arms at (plain_expression e) (m.in_order (plain_statement first) z) (plain_arms row)) (statements_shown shape others)
     ∙ ap (λ z. m.more_arms at (plain_expression e) (m.in_order (plain_statement first) (plain_others (shown-the_row-Statement-0 shape others).items)) z) (arm_rows _ row)
 
@@ -146,7 +146,7 @@ arms_shown shape row = arm_rows _ row ∙ ap arm_list (sym (items_shown-the_row-
 
 pub if_open : (x : IfStatement) → plain_if x ≡ plain_if_statement x
 unfolding out-IfStatement shown-the_row-Statement-0 shown-the_row-Arm-3 denote.Hole.Carrier.out
-if_open (IfStatement' at e first shape others arms_shape arms else_shape otherwise) =
+if_open (IfStatement' at e _ first shape others arms_shape arms else_shape otherwise) =
     let statements = m.in_order (plain_statement first) (plain_others (shown-the_row-Statement-0 shape others).items) in
     ap (λ z. m.if_then at (plain_expression e) (m.in_order (plain_statement first) z) (plain_arms arms) (plain_row otherwise)) (statements_shown shape others)
     ∙ ap (λ z. m.if_then at (plain_expression e) statements z (plain_row otherwise)) (arms_shown arms_shape arms)
@@ -198,11 +198,11 @@ pub or_delay_open : (x : Delay) (v : Vec Statement Global) → plain_other (othe
 or_delay_open x v = ap (λ z. m.or_delay (plain_delay x) z) (others_are v)
 
 pub or_else_open : (x : Statements) → plain_other (otherwise.Else x) ≡ m.or_else (plain_statements x)
-or_else_open x = ap (λ z. m.or_else (m.in_order (plain_statement x.first) z)) (others_are x.others)
+or_else_open x = ap (λ z. m.or_else (m.in_order (plain_statement x.first.value) z)) (others_are x.others)
 
 handler_rows : (n : _) (row : Row_of-Handler n) → plain_handlers row ≡ handler_list (items-the_row-Handler n row)
 handler_rows n end_of-Handler = refl
-handler_rows n (more_of-Handler x first shape others row) =
+handler_rows n (more_of-Handler x _ first shape others row) =
     ap (λ z. m.more_handlers (plain_choices x) (m.in_order (plain_statement first) z) (plain_handlers row)) (statements_shown shape others)
     ∙ ap (λ z. m.more_handlers (plain_choices x) (m.in_order (plain_statement first) (plain_others (shown-the_row-Statement-0 shape others).items)) z) (handler_rows _ row)
 
@@ -211,7 +211,7 @@ handlers_shown shape row = handler_rows _ row ∙ ap handler_list (sym (items_sh
 
 pub body_open : (x : Body) → plain_body x ≡ plain_body_parts x
 unfolding out-Body shown-the_row-Statement-0 shown-the_row-Handler-2 denote.Hole.Carrier.out
-body_open (Body' begin first shape others handler_shape handlers end name semicolon) =
+body_open (Body' begin _ first shape others handler_shape handlers end name semicolon) =
     ap (λ z. m.body begin (m.in_order (plain_statement first) z) (plain_handlers handlers) end name semicolon) (statements_shown shape others)
     ∙ ap (λ z. m.body begin (m.in_order (plain_statement first) (plain_others (shown-the_row-Statement-0 shape others).items)) z end name semicolon) (handlers_shown handler_shape handlers)
 

@@ -13,7 +13,7 @@ pub struct Ident {
 }
 
 /// A whole number (RM 2.4): its value, none where it is larger than any Integer, and where it stands.
-#[derive(Clone, Copy, PartialEq, Eq)]
+#[derive(Clone, Copy)]
 pub struct Number {
     pub value: Option<Int32>,
     pub at: Pos,
@@ -21,7 +21,7 @@ pub struct Number {
 
 /// A real number (RM 2.4): its whole part, none where that is larger than any Integer, what follows its point in thousandths,
 /// none where that has more than three digits, and where it stands.
-#[derive(Clone, Copy, PartialEq, Eq)]
+#[derive(Clone, Copy)]
 pub struct Real {
     pub whole: Option<Int32>,
     pub thousandths: Option<u16>,
@@ -36,21 +36,21 @@ pub struct Literal {
 }
 
 /// A unary adding operator (RM 4.5.4).
-#[derive(Clone, Copy, PartialEq, Eq)]
+#[derive(Clone, Copy)]
 pub enum Sign {
     Plus,
     Minus,
 }
 
 /// A sign before the first term, and where it stands.
-#[derive(Clone, Copy, PartialEq, Eq)]
+#[derive(Clone, Copy)]
 pub struct Signed {
     pub sign: Sign,
     pub at: Pos,
 }
 
 /// A binary adding operator (RM 4.5.3).
-#[derive(Clone, Copy, PartialEq, Eq)]
+#[derive(Clone, Copy)]
 pub enum Adding {
     Plus,
     Minus,
@@ -58,7 +58,7 @@ pub enum Adding {
 }
 
 /// A multiplying operator (RM 4.5.5).
-#[derive(Clone, Copy, PartialEq, Eq)]
+#[derive(Clone, Copy)]
 pub enum Multiplying {
     Times,
     Divide,
@@ -67,21 +67,21 @@ pub enum Multiplying {
 }
 
 /// A highest precedence operator (RM 4.5.6).
-#[derive(Clone, Copy, PartialEq, Eq)]
+#[derive(Clone, Copy)]
 pub enum Highest {
     Magnitude,
     Not,
 }
 
 /// An operator before a primary, and where it stands.
-#[derive(Clone, Copy, PartialEq, Eq)]
+#[derive(Clone, Copy)]
 pub struct Operator {
     pub highest: Highest,
     pub at: Pos,
 }
 
 /// A relational operator (RM 4.5.2).
-#[derive(Clone, Copy, PartialEq, Eq)]
+#[derive(Clone, Copy)]
 pub enum Relational {
     Equal,
     Unequal,
@@ -102,13 +102,23 @@ pub enum Connective {
 }
 
 /// An expression (RM 4.4).
-#[derive(Drop)]
 #[cycle(expression)]
 pub enum Expression {
     /// One relation, with no logical operator.
     Alone(Relation),
     /// Several relations.
     Connected(Box<Chain>),
+}
+
+// A drop of its own is one call wherever such a tree is let go; a derived one would be its parts' drops, each time anew.
+impl Drop for Expression {
+    #[cycle(expression)]
+    fn drop(self) {
+        match self {
+            Expression::Alone(relation) => drop(relation),
+            Expression::Connected(chain) => drop(chain),
+        }
+    }
 }
 
 /// Relations with the same operator between each two (RM 4.4(2)): the first, the second, and those behind them.
@@ -195,11 +205,19 @@ pub enum Primary {
 }
 
 /// A name (RM 4.1): its first part, and those behind points.
-#[derive(Drop)]
 #[cycle(expression)]
 pub struct Name {
     pub first: NamePart,
     pub others: Vec<NamePart>,
+}
+
+impl Drop for Name {
+    #[cycle(expression)]
+    fn drop(self) {
+        let Name { first, others } = self;
+        drop(first);
+        drop(others);
+    }
 }
 
 /// An identifier of a name, and the arguments in the parentheses behind it.
@@ -211,21 +229,28 @@ pub struct NamePart {
 }
 
 /// The names of a declaration: the first, and those behind it (RM 3.3.1).
-#[derive(Drop)]
 pub struct Identifiers {
     pub first: Ident,
     pub others: Vec<Ident>,
 }
 
+impl Drop for Identifiers {
+    fn drop(self) {
+        let Identifiers { first, others } = self;
+        drop(first);
+        drop(others);
+    }
+}
+
 /// A bound of an array (RM 3.6.1): whether a minus stands before it, and its number.
-#[derive(Clone, Copy, PartialEq, Eq)]
+#[derive(Clone, Copy)]
 pub struct Bound {
     pub negative: bool,
     pub number: Number,
 }
 
 /// How formal parameters are passed (RM 6.1), and where that is written.
-#[derive(Clone, Copy, PartialEq, Eq)]
+#[derive(Clone, Copy)]
 pub enum Mode {
     /// It is not written, which means `in`.
     Unstated,
@@ -244,7 +269,6 @@ pub struct Formal {
 }
 
 /// A declaration (RM 3.1).
-#[derive(Drop)]
 #[cycle(statement)]
 pub enum Declaration {
     /// Variables, their subtype and their initial value (RM 3.3.1).
@@ -260,6 +284,34 @@ pub enum Declaration {
     TaskBody(Box<TaskBody>),
     Protected(ProtectedDeclaration),
     ProtectedBody(Box<ProtectedBody>),
+}
+
+impl Drop for Declaration {
+    #[cycle(statement)]
+    fn drop(self) {
+        match self {
+            Declaration::Object(names, subtype, value) => {
+                drop(names);
+                drop(subtype);
+                drop(value);
+            }
+            Declaration::Constant(names, subtype, value) => {
+                drop(names);
+                drop(subtype);
+                drop(value);
+            }
+            Declaration::Array(names, _, _, subtype) => {
+                drop(names);
+                drop(subtype);
+            }
+            Declaration::Exception(names) => drop(names),
+            Declaration::Procedure(procedure) => drop(procedure),
+            Declaration::Task(task) => drop(task),
+            Declaration::TaskBody(body) => drop(body),
+            Declaration::Protected(object) => drop(object),
+            Declaration::ProtectedBody(body) => drop(body),
+        }
+    }
 }
 
 /// A procedure and its body (RM 6.3): where its `procedure` stands, its name, its formal parameters, and its declarations.
@@ -368,7 +420,6 @@ pub enum OperationKind {
 }
 
 /// A statement (RM 5.1).
-#[derive(Drop)]
 #[cycle(statement)]
 pub enum Statement {
     /// A null statement, and where it stands.
@@ -391,6 +442,34 @@ pub enum Statement {
     /// A timed or a conditional entry call.
     SelectCall(Box<SelectedCall>),
     Abort(Box<AbortStatement>),
+}
+
+impl Drop for Statement {
+    #[cycle(statement)]
+    fn drop(self) {
+        match self {
+            Statement::Null(_) => {}
+            Statement::Assign(name, value) => {
+                drop(name);
+                drop(value);
+            }
+            Statement::Call(name) => drop(name),
+            Statement::If(statement) => drop(statement),
+            Statement::Loop(statement) => drop(statement),
+            Statement::Block(statement) => drop(statement),
+            Statement::Exit(_, label, condition) => {
+                drop(label);
+                drop(condition);
+            }
+            Statement::Return(_, value) => drop(value),
+            Statement::Raise(_, exception) => drop(exception),
+            Statement::Accept(statement) => drop(statement),
+            Statement::Delay(statement) => drop(statement),
+            Statement::Select(statement) => drop(statement),
+            Statement::SelectCall(statement) => drop(statement),
+            Statement::Abort(statement) => drop(statement),
+        }
+    }
 }
 
 /// An abort statement (RM 9.8): where its `abort` stands, and the tasks that it names.
@@ -532,16 +611,16 @@ pub enum Otherwise {
 }
 
 /// A sequence of statements (RM 5.1(2)): the first, and those behind it.
+// The first lies in a box, since the prover lays out in each function all that lies in a value and in no box.
 #[derive(Drop)]
 #[cycle(statement)]
 pub struct Statements {
-    pub first: Statement,
+    pub first: Box<Statement>,
     pub others: Vec<Statement>,
 }
 
 /// A sequence of statements with handlers (RM 11.2(2)): where its `begin` and its `end` stand, the name behind `end`, and where
 /// the semicolon stands.
-#[derive(Drop)]
 #[cycle(statement)]
 pub struct Body {
     pub begin: Pos,
@@ -550,6 +629,23 @@ pub struct Body {
     pub end: Pos,
     pub name: Option<Ident>,
     pub semicolon: Pos,
+}
+
+impl Drop for Body {
+    #[cycle(statement)]
+    fn drop(self) {
+        let Body {
+            begin: _,
+            statements,
+            handlers,
+            end: _,
+            name,
+            semicolon: _,
+        } = self;
+        drop(statements);
+        drop(handlers);
+        drop(name);
+    }
 }
 
 /// An exception handler (RM 11.2(3)): for what it is, and its statements.
@@ -570,7 +666,7 @@ pub enum Choices {
 }
 
 /// A context clause for Ada.Text_IO, and where it begins.
-#[derive(Clone, Copy, PartialEq, Eq)]
+#[derive(Clone, Copy)]
 pub enum Context {
     /// A with clause (RM 10.1.2).
     With(Pos),
@@ -587,8 +683,6 @@ pub struct Unit {
     pub declarations: Vec<Declaration>,
     pub body: Body,
 }
-
-// A drop of its own is one call wherever such a tree is dropped; a derived one would be its parts' drops, each time anew.
 
 impl Drop for Unit {
     fn drop(self) {

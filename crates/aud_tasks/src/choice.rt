@@ -16,14 +16,14 @@ use aud_sequential::units::is_function;
 use aud_state::state::State;
 
 /// A step that may have several moves: a selective accept, or a call of this entry.
-#[derive(Clone, Copy, PartialEq, Eq)]
+#[derive(Clone, Copy)]
 pub(crate) enum Choice {
     Select,
     Call(usize),
 }
 
 /// A call of a procedure, function or entry of an object, and whether it is a function's.
-#[derive(Clone, Copy, PartialEq, Eq)]
+#[derive(Clone, Copy)]
 pub(crate) struct Start {
     pub object: usize,
     pub reading: bool,

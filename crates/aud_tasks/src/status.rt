@@ -22,7 +22,7 @@ use aud_state::state::State;
 /// What a task is doing: it isn't activated yet; it has a move, or services an object; it waits for activations, at an accept, or
 /// for a delay; its entry call is queued, or accepted; it waits for those that depend on a master, or for an object; it is
 /// completed, or terminated.
-#[derive(Clone, Copy, PartialEq, Eq)]
+#[derive(Clone, Copy)]
 pub enum Shown {
     Created,
     Ready,

@@ -35,17 +35,17 @@ others_are : (v : Vec Statement Global) → plain_row (hidden-the_row-Statement-
 others_are v = statement_rows _ (hidden-the_row-Statement-0 v) ∙ ap (map plain_statement) (items_hidden-the_row-Statement-0 v)
 
 pub loop_open : (b : Box Statements Global) → plain_statement (Loop b) ≡ tree.plain_loop (statements_in b.value)
-loop_open b = ap (λ z. tree.plain_loop (before (plain_statement b.value.first) z)) (others_are b.value.others)
+loop_open b = ap (λ z. tree.plain_loop (before (plain_statement b.value.first.value) z)) (others_are b.value.others)
 
 pub while_open : (at : Pos) (c : BooleanExpression) (b : Box Statements Global) → plain_statement (While at c b) ≡ tree.while_loop at (plain_boolean c) (statements_in b.value)
-while_open at c b = ap (λ z. tree.while_loop at (plain_boolean c) (before (plain_statement b.value.first) z)) (others_are b.value.others)
+while_open at c b = ap (λ z. tree.while_loop at (plain_boolean c) (before (plain_statement b.value.first.value) z)) (others_are b.value.others)
 
 shown_are : (shape : Vec (Unit {0}) Global) (row : Row_of-Statement (list_count (this {0}) shape.items 0)) → plain_row row ≡ map plain_statement (shown-the_row-Statement-0 shape row).items
 shown_are shape row = statement_rows _ row ∙ ap (map plain_statement) (sym (items_shown-the_row-Statement-0 shape row))
 
 arm_rows : (n : _) (row : Row_of-Arm n) (otherwise : Part) → plain_arms row otherwise ≡ part_of_arms (items-the_row-Arm n row) otherwise
 arm_rows n end_of-Arm otherwise = refl
-arm_rows n (more_of-Arm at c first shape others row) otherwise =
+arm_rows n (more_of-Arm at c _ first shape others row) otherwise =
     ap (λ z. some (tree.if_then at (plain_boolean c) (before (plain_statement first) z) (plain_arms row otherwise))) (shown_are shape others)
     ∙ ap (λ z. some (tree.if_then at (plain_boolean c) (before (plain_statement first) (map plain_statement (shown-the_row-Statement-0 shape others).items)) z)) (arm_rows _ row otherwise)
 
@@ -54,7 +54,7 @@ arms_are shape row otherwise = arm_rows _ row otherwise ∙ ap (λ z. part_of_ar
 
 pub if_open : (s : IfStatement) → plain_if s ≡ if_in s
 unfolding out-IfStatement shown-the_row-Statement-0 shown-the_row-Arm-3 denote.Hole.Carrier.out
-if_open (IfStatement' at c first shape others arms_shape arms else_shape otherwise) =
+if_open (IfStatement' at c _ first shape others arms_shape arms else_shape otherwise) =
     let ss = map plain_statement (shown-the_row-Statement-0 shape others).items in
     ap (λ z. tree.if_then at (plain_boolean c) (before (plain_statement first) z) (plain_arms arms (part_of (plain_row otherwise)))) (shown_are shape others)
     ∙ ap (λ z. tree.if_then at (plain_boolean c) (before (plain_statement first) ss) (plain_arms arms (part_of z))) (shown_are else_shape otherwise)
@@ -63,17 +63,17 @@ if_open (IfStatement' at c first shape others arms_shape arms else_shape otherwi
 pub for_open : (b : Box ForStatement Global) → plain_statement (For b) ≡ for_in b.value
 for_open b =
     let o = b.value in
-    ap (λ z. tree.for_loop (record { at = o.at; next_at = o.next_at; region = o.region; backward = o.backward }) (plain_integer o.first) (plain_integer o.last) (before (plain_statement o.statements.first) z)) (others_are o.statements.others)
+    ap (λ z. tree.for_loop (record { at = o.at; next_at = o.next_at; region = o.region; backward = o.backward }) (plain_integer o.first) (plain_integer o.last) (before (plain_statement o.statements.first.value) z)) (others_are o.statements.others)
 
 handler_rows : (n : _) (row : Row_of-Handler n) → plain_handlers row ≡ handlers_in (items-the_row-Handler n row)
 handler_rows n end_of-Handler = refl
-handler_rows n (more_of-Handler others choices first shape more row) =
+handler_rows n (more_of-Handler others choices _ first shape more row) =
     ap (λ z. handler others choices.items (before (plain_statement first) z) (plain_handlers row)) (shown_are shape more)
     ∙ ap (handler others choices.items (before (plain_statement first) (map plain_statement (shown-the_row-Statement-0 shape more).items))) (handler_rows _ row)
 
 pub body_open : (b : Body) → plain_body b ≡ body_in b
 unfolding out-Body shown-the_row-Statement-0 shown-the_row-Handler-2 denote.Hole.Carrier.out
-body_open (Body' declared_shape declarations begin activates first shape others handler_shape handlers end) =
+body_open (Body' declared_shape declarations begin activates _ first shape others handler_shape handlers end) =
     let es = map plain_statement (shown-the_row-Statement-0 declared_shape declarations).items ++ activation activates begin in
     let ss = map plain_statement (shown-the_row-Statement-0 shape others).items in
     ap (λ z. tree.body (part_of (z ++ activation activates begin)) begin (before (plain_statement first) (plain_row others)) (plain_handlers handlers) end) (shown_are declared_shape declarations)

@@ -12,14 +12,14 @@ use aud_text::text::Text;
 use std::alloc::{AllocError, Global};
 
 /// A variable: the level of its frame, the main procedure's being 0, and its number there, by declaration.
-#[derive(Clone, Copy, PartialEq, Eq)]
+#[derive(Clone, Copy)]
 pub struct Variable {
     pub level: usize,
     pub index: usize,
 }
 
 /// A one-dimensional array: the cell of its first element, its lower bound and its length (RM 3.6).
-#[derive(Clone, Copy, PartialEq, Eq)]
+#[derive(Clone, Copy)]
 pub struct ArrayAt {
     pub first: Variable,
     pub low: i32,
@@ -27,7 +27,7 @@ pub struct ArrayAt {
 }
 
 /// A scalar subtype (RM 3.5).
-#[derive(Clone, Copy, PartialEq, Eq)]
+#[derive(Clone, Copy)]
 pub enum Subtype {
     Integer,
     Natural,
@@ -36,14 +36,14 @@ pub enum Subtype {
 }
 
 /// An operator on one Integer.
-#[derive(Clone, Copy, PartialEq, Eq)]
+#[derive(Clone, Copy)]
 pub enum Unary {
     Negative,
     Magnitude,
 }
 
 /// An operator on two Integers.
-#[derive(Clone, Copy, PartialEq, Eq)]
+#[derive(Clone, Copy)]
 pub enum Binary {
     Sum,
     Difference,
@@ -54,7 +54,7 @@ pub enum Binary {
 }
 
 /// A relation (RM 4.5.2).
-#[derive(Clone, Copy, PartialEq, Eq)]
+#[derive(Clone, Copy)]
 pub enum Relation {
     Equal,
     Unequal,
@@ -192,7 +192,7 @@ pub enum TextExpression {
 }
 
 /// So many seconds and thousandths of a second (RM 9.6).
-#[derive(Clone, Copy, PartialEq, Eq)]
+#[derive(Clone, Copy)]
 pub struct Duration {
     pub seconds: u32,
     pub thousandths: u16,
@@ -252,7 +252,6 @@ impl Tasks {
 }
 
 /// A statement, or the elaboration of an object declaration, with the place of its first token.
-#[derive(Drop)]
 #[cycle(statement)]
 pub enum Statement {
     /// The next variables of the innermost frame, until this number of them is elaborated, each with an initial value of its own
@@ -302,6 +301,49 @@ pub enum Statement {
     Select(Box<SelectStatement>),
     /// These tasks, and those that depend on them, become abnormal (RM 9.8).
     Abort(Pos, Vec<TaskName>),
+}
+
+impl Drop for Statement {
+    #[cycle(statement)]
+    fn drop(self) {
+        match self {
+            Statement::DeclareArray(_, _, _)
+            | Statement::Activated(_)
+            | Statement::Null(_)
+            | Statement::Raise(_, _)
+            | Statement::RaiseAgain(_)
+            | Statement::Return(_) => {}
+            Statement::Declare(_, _, value) => drop(value),
+            Statement::DeclareTasks(_, tasks) => drop(tasks),
+            Statement::DeclareObject(_, _, values) => drop(values),
+            Statement::Assign(_, target, value) => {
+                drop(target);
+                drop(value);
+            }
+            Statement::Put(_, text) => drop(text),
+            Statement::If(statement) => drop(statement),
+            Statement::While(_, condition, statements) => {
+                drop(condition);
+                drop(statements);
+            }
+            Statement::Loop(statements) => drop(statements),
+            Statement::For(statement) => drop(statement),
+            Statement::Exit(_, _, condition) => drop(condition),
+            Statement::Block(statement) => drop(statement),
+            Statement::ReturnValue(_, value) => drop(value),
+            Statement::ProcedureCall(_, calling) => drop(calling),
+            Statement::OwnEntryCall(_, arguments, form) => {
+                drop(arguments);
+                drop(form);
+            }
+            Statement::OperationCall(_, _, calling) => drop(calling),
+            Statement::EntryCall(call) => drop(call),
+            Statement::Delay(_, delay) => drop(delay),
+            Statement::Accept(accept) => drop(accept),
+            Statement::Select(select) => drop(select),
+            Statement::Abort(_, tasks) => drop(tasks),
+        }
+    }
 }
 
 /// The condition and statements behind `if`, those behind each `elsif`, and the statements behind `else`, which are none where
@@ -432,15 +474,16 @@ pub struct Handler {
 }
 
 /// A sequence of statements (RM 5.1(2)): the first, and those behind it.
+// The first lies in a box, since the prover lays out in each function all that lies in a value and in no box.
 #[derive(Drop)]
 #[cycle(statement)]
 pub struct Statements {
-    pub first: Statement,
+    pub first: Box<Statement>,
     pub others: Vec<Statement>,
 }
 
 /// How a variable is shown: as a number or as False or True, or as this many of them, or not at all where it has this many cells.
-#[derive(Clone, Copy, PartialEq, Eq)]
+#[derive(Clone, Copy)]
 pub enum Shown {
     Whole,
     Truth,

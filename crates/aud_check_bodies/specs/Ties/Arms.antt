@@ -15,7 +15,7 @@ use Rattle.aud_check_bodies.specs.Selects.{TypedAlternative, accepts, delays, te
 use Rattle.aud_check_bodies.specs.Statements.{TypedStatements, TypedArm, TypedHandler, TypedBody}
 
 abbrev pub plain_sequence : Statements → TypedStatements
-plain_sequence ss = record { first = plain_statement ss.first; others = plain_statements ss.others.items }
+plain_sequence ss = record { first = plain_statement ss.first.value; others = plain_statements ss.others.items }
 
 abbrev pub plain_items : Vec Statement Global → List tree.Statement
 plain_items ss = plain_statements ss.items

@@ -10,7 +10,7 @@ use Rattle.aud_solo.specs.declared.solo.SoloFault.{SoloFault}
 use Rattle.aud_solo.specs.declared.solo.SoloFault.TheVariants as fault
 use Rattle.aud_solo.specs.Solo.{HasRead}
 use Rattle.aud_solo.specs.Streams.{AppendsFront}
-use Rattle.aud_desk.specs.Passed.{Passed}
+use Rattle.aud_pass.specs.Passed.{Passed}
 use Rattle.aud_connection.specs.declared.visit.Visit.{Visit}
 use Rattle.aud_connection.specs.Told.{are_answers}
 use Rattle.aud_connection.specs.Served.{Waits, Talks, Tells, TellsSome, WritesAll}

@@ -7,10 +7,10 @@ use Rattle.aud_bench.specs.declared.request.Answer.{Answer}
 use Rattle.aud_bench.specs.declared.request.Answer.TheVariants.{Done, Refused}
 use Rattle.aud_bench.specs.Alone.{is_quit, alone}
 use Rattle.aud_lines.specs.Text.{answer_text}
-use Rattle.aud_desk.specs.declared.fault.DeskFault.{DeskFault}
-use Rattle.aud_desk.specs.declared.fault.DeskFault.TheVariants as fault
-use Rattle.aud_desk.specs.Passed.{Passed, IsOpened}
-use Rattle.aud_desk.specs.Replies.{IsWhole, IsLost, Fits, Overflows}
+use Rattle.aud_pass.specs.declared.fault.DeskFault.{DeskFault}
+use Rattle.aud_pass.specs.declared.fault.DeskFault.TheVariants as fault
+use Rattle.aud_pass.specs.Passed.{Passed, IsOpened}
+use Rattle.aud_pass.specs.Replies.{IsWhole, IsLost, Fits, Overflows}
 use Rattle.aud_connection.specs.Told.{Told, Answered, Faulted, told_text, IsRefused}
 use Rattle.aud_connection.specs.declared.visit.Visit.{Visit}
 

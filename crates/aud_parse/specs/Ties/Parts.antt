@@ -21,7 +21,7 @@ assigned_or_called x (Some e) = m.assign x (plain_expression e)
 -- the statements of an else part
 abbrev pub else_statements : Option (Box Statements Global) → List Statement
 else_statements None = []
-else_statements (Some b) = b.value.first ∷ b.value.others.items
+else_statements (Some b) = b.value.first.value ∷ b.value.others.items
 
 -- an expression out of its box
 abbrev pub unboxed : Option (Box Expression Global) → Option Expression

@@ -264,7 +264,7 @@ abbrev mutual
   plain_statement (Assign x e) = m.assign (plain_name x) (plain_expression e)
   plain_statement (Call x) = m.call (plain_name x)
   plain_statement (If' _ s) = plain_if s
-  plain_statement (Loop' _ label at i first _ others name semicolon) = m.loop label at (plain_iteration i) (m.in_order (plain_statement first) (plain_row others)) name semicolon
+  plain_statement (Loop' _ label at i _ first _ others name semicolon) = m.loop label at (plain_iteration i) (m.in_order (plain_statement first) (plain_row others)) name semicolon
   plain_statement (Block' _ s) = plain_block s
   plain_statement (Exit at label e) = m.exit at label (plain_maybe e)
   plain_statement (Return at e) = m.return at (plain_maybe e)
@@ -281,11 +281,11 @@ abbrev mutual
 
   -- RM 5.3
   pub plain_if : IfStatement → m.Statement
-  plain_if (IfStatement' at e first _ others _ arms _ otherwise) = m.if_then at (plain_expression e) (m.in_order (plain_statement first) (plain_row others)) (plain_arms arms) (plain_row otherwise)
+  plain_if (IfStatement' at e _ first _ others _ arms _ otherwise) = m.if_then at (plain_expression e) (m.in_order (plain_statement first) (plain_row others)) (plain_arms arms) (plain_row otherwise)
 
   pub plain_arms : {n : _} → Row_of-Arm n → m.Arms
   plain_arms end_of-Arm = m.no_arms
-  plain_arms (more_of-Arm at e first _ others arms) = m.more_arms at (plain_expression e) (m.in_order (plain_statement first) (plain_row others)) (plain_arms arms)
+  plain_arms (more_of-Arm at e _ first _ others arms) = m.more_arms at (plain_expression e) (m.in_order (plain_statement first) (plain_row others)) (plain_arms arms)
 
   -- RM 5.6
   pub plain_block : BlockStatement → m.Statement
@@ -293,11 +293,11 @@ abbrev mutual
 
   -- RM 11.2
   pub plain_body : Body → m.Body
-  plain_body (Body' begin first _ others _ handlers end name semicolon) = m.body begin (m.in_order (plain_statement first) (plain_row others)) (plain_handlers handlers) end name semicolon
+  plain_body (Body' begin _ first _ others _ handlers end name semicolon) = m.body begin (m.in_order (plain_statement first) (plain_row others)) (plain_handlers handlers) end name semicolon
 
   pub plain_handlers : {n : _} → Row_of-Handler n → m.Handlers
   plain_handlers end_of-Handler = m.no_handlers
-  plain_handlers (more_of-Handler x first _ others handlers) = m.more_handlers (plain_choices x) (m.in_order (plain_statement first) (plain_row others)) (plain_handlers handlers)
+  plain_handlers (more_of-Handler x _ first _ others handlers) = m.more_handlers (plain_choices x) (m.in_order (plain_statement first) (plain_row others)) (plain_handlers handlers)
 
   -- RM 9.5.2(3)
   pub plain_accept : AcceptStatement → m.Accept
@@ -323,7 +323,7 @@ abbrev mutual
   -- RM 9.7.2, 9.7.3
   pub plain_other : Otherwise → m.Otherwise
   plain_other (otherwise.Delay' x _ behind) = m.or_delay (plain_delay x) (plain_row behind)
-  plain_other (otherwise.Else' first _ others) = m.or_else (m.in_order (plain_statement first) (plain_row others))
+  plain_other (otherwise.Else' _ first _ others) = m.or_else (m.in_order (plain_statement first) (plain_row others))
 
 -- The same by the parts of what is in memory.
 
@@ -364,7 +364,7 @@ plain_others [] = m.no_statements
 plain_others (x ∷ xs) = m.more_statements (plain_statement x) (plain_others xs)
 
 abbrev pub plain_statements : Statements → m.Statements
-plain_statements x = m.in_order (plain_statement x.first) (plain_others x.others.items)
+plain_statements x = m.in_order (plain_statement x.first.value) (plain_others x.others.items)
 
 abbrev pub arm_list : List Arm → m.Arms
 arm_list [] = m.no_arms

@@ -167,9 +167,9 @@ abbrev mutual
   plain_statement (Assign at r e) = tree.assign at (plain_reference r) (plain_value e)
   plain_statement (Put at t) = tree.put at (plain_text t)
   plain_statement (If' _ s) = plain_if s
-  plain_statement (While' at c _ first _ others) = tree.while_loop at (plain_boolean c) (before (plain_statement first) (plain_row others))
-  plain_statement (Loop' _ first _ others) = tree.plain_loop (before (plain_statement first) (plain_row others))
-  plain_statement (For' _ at next_at region backward a b first _ others) =
+  plain_statement (While' at c _ _ first _ others) = tree.while_loop at (plain_boolean c) (before (plain_statement first) (plain_row others))
+  plain_statement (Loop' _ _ first _ others) = tree.plain_loop (before (plain_statement first) (plain_row others))
+  plain_statement (For' _ at next_at region backward a b _ first _ others) =
       tree.for_loop (record { at = at; next_at = next_at; region = region; backward = backward }) (plain_integer a) (plain_integer b) (before (plain_statement first) (plain_row others))
   plain_statement (Exit at n c) = tree.exit at n (plain_boolean c)
   plain_statement (Raise at x) = tree.raising at x
@@ -191,12 +191,12 @@ abbrev mutual
   plain_row (more_of-Statement s rest) = plain_statement s ∷ plain_row rest
 
   pub plain_if : IfStatement → tree.Statement
-  plain_if (IfStatement' at c first _ others _ arms _ otherwise) = tree.if_then at (plain_boolean c) (before (plain_statement first) (plain_row others)) (plain_arms arms (part_of (plain_row otherwise)))
+  plain_if (IfStatement' at c _ first _ others _ arms _ otherwise) = tree.if_then at (plain_boolean c) (before (plain_statement first) (plain_row others)) (plain_arms arms (part_of (plain_row otherwise)))
 
   -- the arms behind each `elsif`, and what stands behind them
   pub plain_arms : {n : _} → Row_of-Arm n → Part → Part
   plain_arms end_of-Arm otherwise = otherwise
-  plain_arms (more_of-Arm at c first _ others rest) otherwise = some (tree.if_then at (plain_boolean c) (before (plain_statement first) (plain_row others)) (plain_arms rest otherwise))
+  plain_arms (more_of-Arm at c _ first _ others rest) otherwise = some (tree.if_then at (plain_boolean c) (before (plain_statement first) (plain_row others)) (plain_arms rest otherwise))
 
   pub plain_block : BlockStatement → tree.Statement
   plain_block (BlockStatement' at region b) = tree.block at region (plain_body b)
@@ -226,10 +226,10 @@ abbrev mutual
 
   pub plain_handlers : {n : _} → Row_of-Handler n → Handlers
   plain_handlers end_of-Handler = no_handlers
-  plain_handlers (more_of-Handler others choices first _ more rest) = handler others choices.items (before (plain_statement first) (plain_row more)) (plain_handlers rest)
+  plain_handlers (more_of-Handler others choices _ first _ more rest) = handler others choices.items (before (plain_statement first) (plain_row more)) (plain_handlers rest)
 
   pub plain_body : Body → tree.Body
-  plain_body (Body' _ declarations begin activates first _ others _ handlers end) =
+  plain_body (Body' _ declarations begin activates _ first _ others _ handlers end) =
       tree.body (part_of (plain_row declarations ++ activation activates begin)) begin (before (plain_statement first) (plain_row others)) (plain_handlers handlers) end
 
 abbrev pub plain_statements : List Statement → List tree.Statement
@@ -282,7 +282,7 @@ abbrev pub in_order : Statement → List Statement → tree.Statement
 in_order s ss = before (plain_statement s) (plain_statements ss)
 
 abbrev pub statements_in : Statements → tree.Statement
-statements_in ss = in_order ss.first ss.others.items
+statements_in ss = in_order ss.first.value ss.others.items
 
 -- the arms behind each `elsif`, and what stands behind them
 abbrev pub part_of_arms : List Arm → Part → Part

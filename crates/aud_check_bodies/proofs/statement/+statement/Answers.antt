@@ -529,16 +529,16 @@ statements-returns t c =
     let t1 = plain_tables c.statement.new.tables in
     let u = plain_tables c.more_statements-others.new.tables in
     let b = c.in_ok-first-2 in
-    let s = checked_statement (plain_statement x.first) around place (plain_tables c.args.tables.now) in
+    let s = checked_statement (plain_statement x.first.value) around place (plain_tables c.args.tables.now) in
     let ss = checked_others (plain_others x.others.items) around place t1 in
     let y : TypedStatements = record { first = plain_typed_statement b.first.value; others = plain_items b.others } in
     let z : TypedStatements = record { first = plain_typed_statement c.in_ok-first.first.value; others = plain_items b.others } in
     let same : y ≡ z = ap (λ v. record { first = plain_typed_statement v.value; others = plain_items b.others }) b.ensures.first in
     let behind : List tree.Statement → Tables → Outcome TypedStatements = λ xs t2. fine (record { first = plain_typed_statement c.in_ok-first.first.value; others = xs }) t2 in
     let next : tree.Statement → Tables → Outcome TypedStatements = λ v t2. and_then (checked_others (plain_others x.others.items) around place t2) (λ xs t3. fine (record { first = v; others = xs }) t3) in
-    let rest : Checks plain_items (Ok b.others) mid new u ss = subst (λ r. Checks plain_items r mid new u ss) b.ensures.next (subst (λ l. Checks plain_items c.more_statements-others.result mid new u (checked_others (plain_others l) around place t1)) c.deref.ensures.value c.more_statements-others.ensures) in
+    let rest : Checks plain_items (Ok b.others) mid new u ss = subst (λ r. Checks plain_items r mid new u ss) b.ensures.next (subst (λ l. Checks plain_items c.more_statements-others.result mid new u (checked_others (plain_others l) around place t1)) c.deref-2.ensures.value c.more_statements-others.ensures) in
     checks (in_box plain_sequence) c.in_order.result old new u y (checked_statements (plain_statements x) around place (plain_tables c.args.tables.now))
-    (is_then old mid new t1 u (plain_typed_statement c.in_ok-first.first.value) y s next c.in_ok-first.ensures (is_then mid new new u u (plain_items b.others) y ss behind rest (is_fine new u y z same))) c.in_order.ensures
+    (is_then old mid new t1 u (plain_typed_statement c.in_ok-first.first.value) y s next (rw c.deref.ensures at c.in_ok-first.ensures) (is_then mid new new u u (plain_items b.others) y ss behind rest (is_fine new u y z same))) c.in_order.ensures
 
 pub loop_body-returns : goal.loop_body-returns
 loop_body-returns t c =

@@ -1,7 +1,7 @@
 use Rattle.std.proofs.Common.{rules, Option, refl, sym, subst}
 use Rattle.aud_bench.specs.declared.request.Request.{Request}
-use Rattle.aud_desk.specs.declared.fault.DeskFault.TheVariants.{NotClaimed}
-use Rattle.aud_desk.specs.Passed.{Passed}
+use Rattle.aud_pass.specs.declared.fault.DeskFault.TheVariants.{NotClaimed}
+use Rattle.aud_pass.specs.Passed.{Passed}
 use Rattle.aud_connection.specs.Told.{Faulted, IsRefused}
 use Rattle.aud_connection.specs.Ties.Visits.{Admits}
 use Rattle.aud_connection.proofs.Fronts.{opens_not}

@@ -5,8 +5,8 @@ use Rattle.aud_text.specs.declared.refusal.Refusal.TheVariants as refusal
 use Rattle.aud_bench.specs.declared.request.Answer.{Answer}
 use Rattle.aud_bench.specs.declared.request.Answer.TheVariants.{Refused}
 use Rattle.aud_bench.specs.Alone.{alone}
-use Rattle.aud_desk.specs.Passed.{Passed}
-use Rattle.aud_desk.specs.Replies.{Fits, Overflows, FitsBy}
+use Rattle.aud_pass.specs.Passed.{Passed}
+use Rattle.aud_pass.specs.Replies.{Fits, Overflows, FitsBy}
 use Rattle.aud_connection.specs.Told.{Answered, Faulted}
 use Rattle.aud_connection.proofs.Following.{ends_so}
 use Rattle.aud_connection.proofs.Fronts.{fits_lost, ends_lost}

@@ -108,7 +108,7 @@ push_statement-returns-in-Loop t c = rw c.in-Loop.is (loop_written c.push_loop.r
 
 pub push_statements-returns : goal.push_statements-returns
 push_statements-returns t c =
-    all_written c.push_more_statements.result c.args.out.now.items c.push_statement.new.out.items c.push_more_statements.new.out.items (statement_words (plain_statement c.args.statements.now.first)) (more_statements_words (plain_others c.args.statements.now.others.items)) c.in_ok-push_statement.ensures (rw c.deref.ensures.value at c.push_more_statements.ensures)
+    all_written c.push_more_statements.result c.args.out.now.items c.push_statement.new.out.items c.push_more_statements.new.out.items (statement_words (plain_statement c.args.statements.now.first.value)) (more_statements_words (plain_others c.args.statements.now.others.items)) (rw c.deref.ensures at c.in_ok-push_statement.ensures) (rw c.deref-2.ensures.value at c.push_more_statements.ensures)
 
 pub push_declarations-loop-next-preserved : goal.push_declarations-loop-next-preserved
 push_declarations-loop-next-preserved t c =

@@ -86,7 +86,7 @@ write_statement-returns-in-Loop t c =
 
 pub write_statements-returns : goal.write_statements-returns
 write_statements-returns t c =
-    whole_list c.write_list.result c.args.ss.now.first c.args.ss.now.others.items c.deref.result.now c.is_empty.result c.args.self.now c.write_in_list.new.self c.write_list.new.self c.args.next (around c.args.out c.args.ways.now) (c.is_empty.ensures ∙ none_left c.args.ss.now.others.items (vec_len c.args.ss.now.others) (sym c.deref.ensures.len ∙ ap length c.deref.ensures.value)) c.deref.ensures.value c.in_ok-write_in_list.ensures c.write_list.ensures
+    whole_list c.write_list.result c.args.ss.now.first.value c.args.ss.now.others.items c.deref-2.result.now c.is_empty.result c.args.self.now c.write_in_list.new.self c.write_list.new.self c.args.next (around c.args.out c.args.ways.now) (c.is_empty.ensures ∙ none_left c.args.ss.now.others.items (vec_len c.args.ss.now.others) (sym c.deref-2.ensures.len ∙ ap length c.deref-2.ensures.value)) c.deref-2.ensures.value (rw c.deref.ensures at c.in_ok-write_in_list.ensures) c.write_list.ensures
 
 pub write_body-returns : goal.write_body-returns
 write_body-returns t c =

@@ -1,0 +1,5 @@
+pub mod Overs
+pub mod Places
+pub mod Passes
+pub mod Fitting
+pub mod Looks
