@@ -784,11 +784,12 @@ def main(program, worlds):
         desk(program)
 
 
-if sys.argv[1] == "desk":
-    desk(sys.argv[2])
-elif sys.argv[1] == "views":
-    views(sys.argv[2])
-elif sys.argv[1] == "loops":
-    alone(sys.argv[2])
-else:
-    main(sys.argv[1], sys.argv[2])
+if __name__ == "__main__":
+    if sys.argv[1] == "desk":
+        desk(sys.argv[2])
+    elif sys.argv[1] == "views":
+        views(sys.argv[2])
+    elif sys.argv[1] == "loops":
+        alone(sys.argv[2])
+    else:
+        main(sys.argv[1], sys.argv[2])
