@@ -39,11 +39,23 @@ SEATS = 64  # the most that a hall has
 SEAT_STEPS = 500_000  # steps at each of them
 PAIRS = 31  # measures of a hall, each between two of one bench
 DESK_PAIRS = 7  # measures of a desk, each between two of one bench
-DESK_ROUNDS = 20  # LOADs at each seat, each with all of its steps
-DESK_STEPS = DESK_ROUNDS * 1_000_000
-DESK_SENT = (b"LOAD 1\nprocedure M is begin loop null; end loop; end M;\n" + b"RUN 100000\n" * 10) * DESK_ROUNDS + b"QUIT\n"
-DESK_TOLD = (b"+ 1\nloaded M\n" + b"+ 1\nran 100000 more\n" * 10) * DESK_ROUNDS + b"+ 0\n"
 SESSIONS_ALONE = 12  # sessions of one bench, one behind the other, that are measured together
+
+
+class Work:
+    """What each seat of a desk has to do: LOADs of a program of one line that loops for ever, each with all of its steps."""
+
+    def __init__(self, name, rounds, ada):
+        self.name = name
+        self.steps = rounds * 1_000_000
+        self.sent = (b"LOAD 1\n" + ada + b"RUN 100000\n" * 10) * rounds + b"QUIT\n"
+        self.told = (b"+ 1\nloaded M\n" + b"+ 1\nran 100000 more\n" * 10) * rounds + b"+ 0\n"
+
+
+WORKS = (
+    Work("two assignments", 8, b"procedure M is X, Y : Integer := 0; begin loop X := X + 1; Y := X - Y; end loop; end M;\n"),
+    Work("null statements", 20, b"procedure M is begin loop null; end loop; end M;\n"),
+)
 
 
 @dataclass
@@ -685,7 +697,7 @@ def halls(worlds):
     print(f"An idle seat takes {(all_of - one) / (SEATS - 1) / 1024:.1f} KiB")
 
 
-def of_desk(program, workers):
+def of_desk(program, work, workers):
     """Steps a second of the listening program where each seat has the same to do. All requests are sent at once, and the answers read
     later: the client has next to nothing to do meanwhile."""
     server, port = listening(program, workers)
@@ -697,18 +709,18 @@ def of_desk(program, workers):
                 sys.exit(f"benchmark: seat {seat} is not to be had")
         begin = perf_counter()
         for link in links:
-            link.sendall(DESK_SENT)
+            link.sendall(work.sent)
         for link in links:
             with link, link.makefile("rb") as answers:
-                if answers.read() != DESK_TOLD:
+                if answers.read() != work.told:
                     sys.exit("benchmark: a seat of the desk is answered otherwise than it must be")
-        return SEATS * DESK_STEPS / (perf_counter() - begin)
+        return SEATS * work.steps / (perf_counter() - begin)
     finally:
         server.kill()
         server.wait()
 
 
-def session_at_once(program, count):
+def session_at_once(program, work, count):
     """The seconds that the session of a seat takes, in so many `aud --solo` at once."""
     benches = [subprocess.Popen([program, "--solo"], stdin=subprocess.PIPE, stdout=subprocess.PIPE) for _ in range(count)]
     for bench in benches:  # an empty line is answered by one line
@@ -717,10 +729,10 @@ def session_at_once(program, count):
         bench.stdout.readline()
     begin = perf_counter()
     for bench in benches:
-        bench.stdin.write(DESK_SENT)
+        bench.stdin.write(work.sent)
         bench.stdin.flush()
     for bench in benches:
-        if bench.stdout.read() != DESK_TOLD:
+        if bench.stdout.read() != work.told:
             sys.exit("benchmark: a bench is answered otherwise than it must be")
     seconds = perf_counter() - begin
     for bench in benches:
@@ -728,27 +740,32 @@ def session_at_once(program, count):
     return seconds
 
 
-def of_benches(program, count):
+def of_benches(program, work, count):
     """Steps a second of so many `aud --solo` at once, all together."""
-    return count * SESSIONS_ALONE * DESK_STEPS / sum(session_at_once(program, count) for _ in range(SESSIONS_ALONE))
+    return count * SESSIONS_ALONE * work.steps / sum(session_at_once(program, work, count) for _ in range(SESSIONS_ALONE))
 
 
 def desk(program):
     """Each measure of a desk stands between two of one bench, as those of a hall do. Beside it is measured what as many benches at once
     as there are workers come to: how much more than one the machine can do."""
     most = min(MOST_WORKERS, processors())
-    print(f"A desk of {SEATS} busy seats, {DESK_STEPS:,} steps at each; steps a second, and the part of one bench's that each worker does (wanted: 0.90):")
-    for workers in sorted({most, *(1 << power for power in range(most.bit_length()))}):
-        alone, busy, benches = [of_benches(program, 1)], [], []
-        for _ in range(DESK_PAIRS):
-            busy.append(of_desk(program, workers))
-            alone.append(of_benches(program, 1))
-            benches.append(of_benches(program, workers))
-        parts = sorted(own * (1 / first + 1 / second) / 2 / workers for first, second, own in zip(alone, alone[1:], busy))
-        half = f"half of them {parts[DESK_PAIRS // 4]:.2f} to {parts[-1 - DESK_PAIRS // 4]:.2f}"
-        name = f"{workers} worker{'s' if workers > 1 else ''}"
-        beside = f"one bench {fast(median(alone))}, {workers} at once {fast(median(benches))}"
-        print(f"    {name:11}{fast(median(busy))}   {beside}   {median(parts):.2f} ({half})", flush=True)
+    for work in WORKS:
+        print(f"A desk of {SEATS} busy seats, {work.steps:,} steps at each, {work.name}; steps a second, and the part of one bench's that each worker does (wanted: 0.90):")
+        for workers in sorted({most, *(1 << power for power in range(most.bit_length()))}):
+            desk_with(program, work, workers)
+
+
+def desk_with(program, work, workers):
+    alone, busy, benches = [of_benches(program, work, 1)], [], []
+    for _ in range(DESK_PAIRS):
+        busy.append(of_desk(program, work, workers))
+        alone.append(of_benches(program, work, 1))
+        benches.append(of_benches(program, work, workers))
+    parts = sorted(own * (1 / first + 1 / second) / 2 / workers for first, second, own in zip(alone, alone[1:], busy))
+    half = f"half of them {parts[DESK_PAIRS // 4]:.2f} to {parts[-1 - DESK_PAIRS // 4]:.2f}"
+    name = f"{workers} worker{'s' if workers > 1 else ''}"
+    beside = f"one bench {fast(median(alone))}, {workers} at once {fast(median(benches))}"
+    print(f"    {name:11}{fast(median(busy))}   {beside}   {median(parts):.2f} ({half})", flush=True)
 
 
 def found(folder):
