@@ -1,8 +1,8 @@
 """Runs the gate, and tells the user time of its processes by crate and by what they did.
 
-The unit is the user time of `rt selftest`, so that machines can be compared: the median of those that run one after the other beside the gate's first
-minutes, since a busy machine takes more user time for the same work. Three before it, alone, are told too. Processes are looked at ten times a second, so
-what one does in its last tenth is not counted for its crate; the sum is exact.
+The unit is the user time of `rt selftest`, so that machines can be compared: the mean of those that run beside the gate, one every five minutes from its
+beginning to its end, since a busy machine takes more user time for the same work. Three before it, alone, are told too. Processes are looked at ten times a
+second, so what one does in its last tenth is not counted for its crate; the sum is exact.
 Only those that this gate has started are counted, whatever else runs on the machine. tools/check calls it.
 """
 import os
@@ -11,12 +11,12 @@ import sys
 import threading
 import time
 from collections import defaultdict
-from statistics import median
+from statistics import mean, median
 
 TICK = os.sysconf("SC_CLK_TCK")
 PARTS = ("proof", "tests", "edits", "other")
-# How many selftests run alone, and how many beside the gate.
-ALONE, BESIDE = 3, 7
+# How many selftests run alone, and the seconds from one beside the gate to the next.
+ALONE, APART = 3, 300
 
 
 def spent(command, name):
@@ -36,9 +36,11 @@ def selftest(where):
 
 
 def selftests_beside(units, ended):
-    """Notes the user times of selftests one after the other, the last of which may end behind the gate."""
-    while len(units) < BESIDE and not ended.is_set():
+    """Notes the user times of selftests, the last of which may end after the gate."""
+    while not ended.is_set():
+        began = time.time()
         units.append(selftest("beside the gate"))
+        ended.wait(began + APART - time.time())
 
 
 def what_it_does(pid):
@@ -129,7 +131,7 @@ def main():
     for it in beside:
         it.join()
     print(f"{said}, in {minutes:.1f} minutes")
-    table(seen, total, median(units))
+    table(seen, total, mean(units))
     print(f"by selftests alone: {total / alone:.1f} of {alone:.1f} seconds")
 
 

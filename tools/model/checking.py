@@ -47,6 +47,11 @@ class Region:
         return region and region.names[name]
 
 
+def wrong(known):
+    """The code where a name of another kind is asked."""
+    return 44 if known and known.kind == "function" else 32
+
+
 def predefined():
     region = Region(None)
     region.names.update((name, Known("type", of)) for name, of in TYPES.items())
@@ -160,14 +165,14 @@ class Check:
     def type_named(self, name, within):
         """None where it is none, which is a fault."""
         known = self.visible(name, within)
-        self.unless(not known or known.kind == "type", 32, name.place)
+        self.unless(not known or known.kind == "type", wrong(known), name.place)
         return known.type if known and known.kind == "type" else None
 
     def known_of(self, declaration, within):
         is_array = isinstance(declaration, Arrays)
         of = self.visible(declaration.subtype, within)
         may_be_task = is_array or not declaration.is_constant and not declaration.value
-        self.unless(not of or of.kind == "type" or of.kind == "task type" and may_be_task, 32, declaration.subtype.place)
+        self.unless(not of or of.kind == "type" or of.kind == "task type" and may_be_task, wrong(of), declaration.subtype.place)
         if of and of.kind == "task type":
             return Known("tasks" if is_array else "task", unit=of.unit)
         of = of.type if of and of.kind == "type" else None
@@ -288,7 +293,7 @@ class Check:
                     self.unless(number == len(handlers), 43, choice.place)
                     continue
                 known = self.visible(choice, within)
-                self.unless(not known or known.kind == "exception", 32, choice.place)
+                self.unless(not known or known.kind == "exception", wrong(known), choice.place)
                 self.unless(not known or known not in chosen, 43, choice.place)
                 chosen.add(known)
             self.statements(statements, replace(within, handles=True))
@@ -371,7 +376,7 @@ class Check:
             self.unless(within.handles, 42, statement.place)
             return
         known = self.visible(statement.name, within)
-        self.unless(not known or known.kind == "exception", 32, statement.name.place)
+        self.unless(not known or known.kind == "exception", wrong(known), statement.name.place)
 
     def delay(self, delay, within):
         if delay.seconds:
@@ -390,7 +395,7 @@ class Check:
             self.unless(known.unit is within.unit and accept.name not in within.accepting, 38, accept.name.place)
             self.unless(self.conform(known, Known("accept", formals=accept.formals, region=region)), 39, accept.name.place)
         elif known:
-            self.fault(32, accept.name.place)
+            self.fault(wrong(known), accept.name.place)
         if accept.body:
             inside = replace(within, region=region, accepting=(*within.accepting, accept.name), around=(), returns=True, function=None)
             self.body(accept.body, inside, accept.name)
@@ -412,7 +417,7 @@ class Check:
         if not self.has_index(known, name, within):
             return
         if known.kind not in ("procedure", "put", "entry"):
-            self.fault(44 if known.kind == "function" else 32, name.name.place)
+            self.fault(wrong(known), name.name.place)
             return
         self.unless(known.kind == "entry" or not is_offer, 49, name.name.place)
         self.unless(not known.unit or known.unit not in within.functions, 47, name.name.place)
@@ -466,7 +471,7 @@ class Check:
 
     def is_task(self, known, name):
         is_right = known.kind == ("tasks" if name.arguments else "task")
-        self.unless(is_right, 44 if known.kind == "function" else 32, name.name.place)
+        self.unless(is_right, wrong(known), name.name.place)
         return is_right
 
     def of_library(self, name):
@@ -499,7 +504,7 @@ class Check:
         if named and behind is name and named.kind in ("entry", "procedure", "function"):
             return named
         is_hidden = not named or named.kind == "variable" and known.unit not in within.bodies
-        self.fault(30 if is_hidden else 44 if named.kind == "function" else 32, behind.name.place)
+        self.fault(30 if is_hidden else wrong(named), behind.name.place)
         return None
 
     def has_index(self, known, name, within):
@@ -530,7 +535,7 @@ class Check:
             return known.type if self.element(known, name, within) else None
         if known.kind in ("variable", "constant") and not name.arguments:
             return known.type
-        self.fault(44 if known.kind == "function" else 32, name.name.place)
+        self.fault(wrong(known), name.name.place)
         return None
 
     # Expressions.

@@ -8,7 +8,8 @@ use Rattle.aud_names.specs.declared.names.Meaning.{Meaning}
 use Rattle.aud_names.specs.declared.names.Meaning.TheVariants.{Task}
 use Rattle.aud_names.specs.Names.{Place}
 use Rattle.aud_names.specs.Rules.{wrong_kind_of_name}
-use Rattle.aud_typing.specs.Expressions.{Entity, no_entity, entity, element_of, task_of, Denoting, denoting, value_faults, checked_arguments}
+use Rattle.aud_names.specs.Resolution.{value_faults}
+use Rattle.aud_typing.specs.Expressions.{Entity, no_entity, entity, element_of, task_of, Denoting, denoting, checked_arguments}
 
 abbrev pub meaning_faults : Meaning → Pos → List Fault
 meaning_faults (Task t) at = []

@@ -11,7 +11,8 @@ use Rattle.aud_names.specs.declared.names.Meaning.{Meaning}
 use Rattle.aud_names.specs.declared.names.Meaning.TheVariants as meaning
 use Rattle.aud_names.specs.declared.names.NamedParameter.{NamedParameter}
 use Rattle.aud_names.specs.Names.{Place, visible, next_frame, is_own}
-use Rattle.aud_names.specs.Rules.{name_not_declared, wrong_kind_of_name, accept_or_count_in_place, conform, formals_conform}
+use Rattle.aud_names.specs.Rules.{name_not_declared, accept_or_count_in_place, conform, formals_conform}
+use Rattle.aud_names.specs.Resolution.{value_faults}
 use Rattle.aud_check_bodies.specs.Tables.{Tables, entry_profile_of}
 use Rattle.aud_check_bodies.specs.Formals.{Formals, checked_formals}
 
@@ -35,7 +36,7 @@ entry_faults e at given within place t =
 abbrev pub accepted_faults : Option Meaning → Pos → List NamedParameter → List ℕ → Place → Tables → List Fault
 accepted_faults None at given within place t = name_not_declared at
 accepted_faults (Some (meaning.Entry e)) at given within place t = entry_faults e at given within place t
-accepted_faults (Some m) at given within place t = wrong_kind_of_name at
+accepted_faults (Some m) at given within place t = value_faults m at
 
 -- of an accept of an entry with these formals, within accepts of these entries
 abbrev pub accept_faults : Ident → List Formal → List ℕ → Place → Tables → List Fault

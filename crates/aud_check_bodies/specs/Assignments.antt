@@ -13,7 +13,8 @@ use Rattle.aud_names.specs.declared.rules.Base.{Base}
 use Rattle.aud_names.specs.declared.rules.Base.TheVariants.{Truth}
 use Rattle.aud_names.specs.Names.{Place}
 use Rattle.aud_names.specs.Rules.{base_asked, wrong_kind_of_name, right_type, not_a_variable, no_change_within_function}
-use Rattle.aud_typing.specs.Expressions.{Typed, Entity, no_entity, entity, element_of, task_of, Denoting, denoting, checked_arguments, value_faults, base_of}
+use Rattle.aud_names.specs.Resolution.{value_faults}
+use Rattle.aud_typing.specs.Expressions.{Typed, Entity, no_entity, entity, element_of, task_of, Denoting, denoting, checked_arguments, base_of}
 use Rattle.aud_check_bodies.specs.Declarations.{value_for}
 
 -- the type of what is assigned to, where it is known

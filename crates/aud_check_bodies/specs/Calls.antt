@@ -19,12 +19,12 @@ use Rattle.aud_names.specs.declared.rules.Base.TheVariants.{Whole, Text}
 use Rattle.aud_names.specs.Names.{Place, is_inside, is_in_function}
 use Rattle.aud_names.specs.Arrays.{task_array_at}
 use Rattle.aud_names.specs.Rules.{wrong_kind_of_name, wrong_number_of_arguments, no_change_within_function, not_an_entry}
-use Rattle.aud_names.specs.Resolution.{are_none, resolved, name_ident, last_args, is_value}
+use Rattle.aud_names.specs.Resolution.{are_none, resolved, name_ident, last_args, is_value, value_faults}
 use Rattle.aud_check_bodies.specs.declared.call.Callee.{Callee}
 use Rattle.aud_check_bodies.specs.declared.call.Callee.TheVariants.{Procedure, Operation, Entry}
 use Rattle.aud_check_bodies.specs.Tables.{Tables, profile_of, entry_profile_of}
 use Rattle.aud_check_bodies.specs.Arguments.{all_passed, arguments_faults}
-use Rattle.aud_typing.specs.Expressions.{Typed, number, string, unknown, Checked, fine, wants, expression_at, checked_arguments, checked_prefix, value_faults}
+use Rattle.aud_typing.specs.Expressions.{Typed, number, string, unknown, Checked, fine, wants, expression_at, checked_arguments, checked_prefix}
 
 -- one argument, which is a text (RM 6.4.1(3))
 abbrev pub one_text : Args → Pos → Typed → List Fault

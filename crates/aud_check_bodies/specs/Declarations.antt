@@ -11,13 +11,14 @@ use Rattle.aud_typed.specs.declared.program.Exception.TheVariants as exception_o
 use Rattle.aud_typed.specs.Tree as tree
 use Rattle.aud_fault.specs.declared.fault.Fault.{Fault}
 use Rattle.aud_names.specs.declared.names.Meaning.{Meaning}
-use Rattle.aud_names.specs.declared.names.Meaning.TheVariants.{ScalarType, Literal, Object, Array, Exception, Builtin, Procedure, TaskType, Protected, Operation, Barred}
+use Rattle.aud_names.specs.declared.names.Meaning.TheVariants.{ScalarType, Exception, Procedure, TaskType}
 use Rattle.aud_names.specs.declared.names.Meaning.TheVariants as meaning
 use Rattle.aud_names.specs.declared.array.Kind.{Kind}
 use Rattle.aud_names.specs.declared.array.Kind.TheVariants.{Scalar, Task}
 use Rattle.aud_names.specs.Names.{Region, Place, visible, is_declared, innermost, in_region, hiding}
 use Rattle.aud_names.specs.Arrays.{bound_value, bound_faults, or_zero, row_between, task_row_between, new_meaning, cells_of}
-use Rattle.aud_names.specs.Rules.{base_asked, name_not_declared, declared_once, wrong_kind_of_name, right_type}
+use Rattle.aud_names.specs.Rules.{base_asked, name_not_declared, declared_once, right_type}
+use Rattle.aud_names.specs.Resolution.{value_faults}
 use Rattle.aud_check_bodies.specs.Tables.{Tables, Outcome}
 use Rattle.aud_typing.specs.Expressions.{Typed, number, boolean, checked_expression, expression_at, base_of}
 
@@ -38,19 +39,7 @@ leaving t o = record { faults = o.faults; tables = t; made = o.made }
 abbrev pub subtype_faults : Option Meaning → Pos → List Fault
 subtype_faults None at = name_not_declared at
 subtype_faults (Some (ScalarType s)) at = []
-subtype_faults (Some (Literal b)) at = wrong_kind_of_name at
-subtype_faults (Some (Object o)) at = wrong_kind_of_name at
-subtype_faults (Some (Array a)) at = wrong_kind_of_name at
-subtype_faults (Some (Exception x)) at = wrong_kind_of_name at
-subtype_faults (Some (Builtin b)) at = wrong_kind_of_name at
-subtype_faults (Some (Procedure n)) at = wrong_kind_of_name at
-subtype_faults (Some (TaskType n)) at = wrong_kind_of_name at
-subtype_faults (Some (meaning.Task v)) at = wrong_kind_of_name at
-subtype_faults (Some (meaning.TaskArray a)) at = wrong_kind_of_name at
-subtype_faults (Some (meaning.Entry e)) at = wrong_kind_of_name at
-subtype_faults (Some (Protected x)) at = wrong_kind_of_name at
-subtype_faults (Some (Operation o)) at = wrong_kind_of_name at
-subtype_faults (Some Barred) at = wrong_kind_of_name at
+subtype_faults (Some m) at = value_faults m at
 
 abbrev pub subtype_meant : Option Meaning → Option Subtype
 subtype_meant (Some (ScalarType s)) = Some s

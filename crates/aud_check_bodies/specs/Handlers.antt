@@ -13,7 +13,8 @@ use Rattle.aud_fault.specs.declared.fault.Fault.{Fault}
 use Rattle.aud_names.specs.declared.names.Meaning.{Meaning}
 use Rattle.aud_names.specs.declared.names.Meaning.TheVariants as meaning
 use Rattle.aud_names.specs.Names.{Place, visible}
-use Rattle.aud_names.specs.Rules.{name_not_declared, wrong_kind_of_name, raise_in_handler, good_choice}
+use Rattle.aud_names.specs.Rules.{name_not_declared, raise_in_handler, good_choice}
+use Rattle.aud_names.specs.Resolution.{value_faults}
 
 -- the exception that a name stands for
 abbrev pub exception_meant : Option Meaning → Option Exception
@@ -24,7 +25,7 @@ exception_meant _ = None
 abbrev pub exception_faults : Option Meaning → Pos → List Fault
 exception_faults None at = name_not_declared at
 exception_faults (Some (meaning.Exception x)) at = []
-exception_faults (Some _) at = wrong_kind_of_name at
+exception_faults (Some m) at = value_faults m at
 
 -- Raise statements.
 

@@ -11,11 +11,12 @@ ghost use Rattle.aud_typing.specs.Ties.Typing.{in_box, Leaves};
 use aud_fault::fault::Least;
 use aud_names::behind::{Left, Made, both, boxed};
 use aud_names::names::{Meaning, Scope};
+use aud_names::resolution::note_no_value;
 use aud_names::rules::wrong_kind_of_name;
 use aud_syntax::tree::{AbortStatement, Name};
 use aud_text::place::Pos;
 use aud_typed::program::{Statement, TaskName};
-use aud_typing::entity::{Entity, check_value, name_denotes};
+use aud_typing::entity::{Entity, name_denotes};
 use aud_typing::expression::arguments;
 
 // Notes where what is named is no task (RM 9.8(3)).
@@ -24,7 +25,7 @@ fn check_task(entity: &Entity, at: Pos, faults: &mut Least)
 {
     match entity {
         Entity::Nothing | Entity::Whole(Meaning::Task(_)) | Entity::Task(_, _) => {}
-        Entity::Whole(meaning) => check_value(*meaning, at, faults),
+        Entity::Whole(meaning) => note_no_value(*meaning, at, faults),
         Entity::Element(_) => wrong_kind_of_name(at, faults),
     }
 }

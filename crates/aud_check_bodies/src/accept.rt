@@ -12,9 +12,8 @@ use crate::tables::Tables;
 use aud_fault::fault::Least;
 use aud_names::behind::Made;
 use aud_names::names::{Entry, Meaning, NamedParameter, Region, Scope};
-use aud_names::rules::{
-    accept_or_count_in_place, conform, formals_conform, name_not_declared, wrong_kind_of_name,
-};
+use aud_names::resolution::note_no_value;
+use aud_names::rules::{accept_or_count_in_place, conform, formals_conform, name_not_declared};
 use aud_syntax::tree::{Formal, Ident};
 use aud_text::place::Pos;
 use std::alloc::Global;
@@ -78,7 +77,7 @@ fn check_accepted(
     match meaning {
         None => name_not_declared(at, faults),
         Some(Meaning::Entry(entry)) => check_entry(entry, at, given, within, scope, tables, faults),
-        Some(_) => wrong_kind_of_name(at, faults),
+        Some(meaning) => note_no_value(meaning, at, faults),
     }
 }
 

@@ -14,13 +14,14 @@ use crate::declaration::value_for;
 use aud_fault::fault::Least;
 use aud_names::behind::{Left, both, boxed};
 use aud_names::names::{Meaning, Scope};
+use aud_names::resolution::note_no_value;
 use aud_names::rules::{
     Base, base_asked, no_change_within_function, not_a_variable, right_type, wrong_kind_of_name,
 };
 use aud_syntax::tree::Expression;
 use aud_text::place::Pos;
 use aud_typed::program::{Reference, Statement as TypedStatement};
-use aud_typing::entity::{Denoting, Element, Entity, check_value};
+use aud_typing::entity::{Denoting, Element, Entity};
 use aud_typing::expression::{expression, expression_at};
 use aud_typing::typed::{Operand, Typed, base_of};
 
@@ -77,7 +78,7 @@ fn check_changed(meaning: Meaning, at: Pos, faults: &mut Least)
         | Meaning::Entry(_)
         | Meaning::Protected(_)
         | Meaning::Barred => wrong_kind_of_name(at, faults),
-        Meaning::Operation(_) => check_value(meaning, at, faults),
+        Meaning::Operation(_) => note_no_value(meaning, at, faults),
     }
 }
 

@@ -23,7 +23,7 @@ use aud_names::behind::{Left, Made, boxed};
 use aud_names::names::{
     Builtin, Entry, Instance, Meaning, NamedParameter, Operation, Scope, is_in_function, is_inside,
 };
-use aud_names::resolution::{Denoted, are_none, is_value, last_args, resolve};
+use aud_names::resolution::{Denoted, are_none, is_value, last_args, note_no_value, resolve};
 use aud_names::rules::{
     Base, no_change_within_function, wrong_kind_of_name, wrong_number_of_arguments,
 };
@@ -32,7 +32,6 @@ use aud_text::place::Pos;
 use aud_typed::program::{
     Argument, Calling, Reference, Statement as TypedStatement, TextExpression,
 };
-use aud_typing::entity::check_value;
 use aud_typing::expression::{arguments, expression_at};
 use aud_typing::typed::{Typed, wants, with_text};
 use std::alloc::Global;
@@ -116,7 +115,7 @@ fn check_callee(denoted: Denoted, args: &[Expression], last: &Typed, faults: &mu
             wrong_kind_of_name(at, faults);
         }
         Some(Meaning::Operation(operation)) => {
-            check_value(Meaning::Operation(operation), at, faults);
+            note_no_value(Meaning::Operation(operation), at, faults);
         }
     }
 }

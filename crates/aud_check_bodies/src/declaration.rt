@@ -18,9 +18,8 @@ use aud_fault::fault::Least;
 use aud_names::array::{Kind, Scalar, bound, cells_of, new_meaning, row_between};
 use aud_names::behind::{Made, both};
 use aud_names::names::{Meaning, Object, Region, Scope};
-use aud_names::rules::{
-    base_asked, declared_once, name_not_declared, right_type, wrong_kind_of_name,
-};
+use aud_names::resolution::note_no_value;
+use aud_names::rules::{base_asked, declared_once, name_not_declared, right_type};
 use aud_syntax::tree::{Bound, Expression, Ident, Identifiers};
 use aud_text::int32::Int32;
 use aud_text::name::Name;
@@ -46,7 +45,7 @@ fn check_subtype(meaning: Option<Meaning>, at: Pos, faults: &mut Least)
     match meaning {
         None => name_not_declared(at, faults),
         Some(Meaning::ScalarType(_)) => {}
-        Some(_) => wrong_kind_of_name(at, faults),
+        Some(meaning) => note_no_value(meaning, at, faults),
     }
 }
 

@@ -11,7 +11,8 @@ ghost use Rattle.aud_typing.specs.Ties.Typing.{in_box, Leaves};
 use aud_fault::fault::Least;
 use aud_names::behind::{Left, Made, boxed};
 use aud_names::names::{Meaning, Scope};
-use aud_names::rules::{good_choice, name_not_declared, raise_in_handler, wrong_kind_of_name};
+use aud_names::resolution::note_no_value;
+use aud_names::rules::{good_choice, name_not_declared, raise_in_handler};
 use aud_syntax::tree::{Choices, Handler, Ident, Identifiers};
 use aud_text::place::Pos;
 use aud_typed::program::{Exception, Statement as TypedStatement};
@@ -25,7 +26,7 @@ fn check_exception(meaning: Option<Meaning>, at: Pos, faults: &mut Least)
     match meaning {
         None => name_not_declared(at, faults),
         Some(Meaning::Exception(_)) => {}
-        Some(_) => wrong_kind_of_name(at, faults),
+        Some(meaning) => note_no_value(meaning, at, faults),
     }
 }
 

@@ -19,7 +19,7 @@ use Rattle.aud_names.specs.declared.parts.PartKind.TheVariants as part_kind
 use Rattle.aud_names.specs.declared.resolution.Denoted.{Denoted}
 use Rattle.aud_names.specs.Names.{Place, visible, is_taken, is_in_own_body, entry_named, named_in, named_inside, predefined, is_inside}
 use Rattle.aud_names.specs.Objects.{part_named}
-use Rattle.aud_names.specs.Rules.{name_not_declared, wrong_kind_of_name, parameter_in_barrier}
+use Rattle.aud_names.specs.Rules.{name_not_declared, wrong_kind_of_name, function_call_out_of_place, parameter_in_barrier}
 
 -- the faults in a name, and what it denotes with the place of the identifier that decides: nothing where it is faulty
 pub record Resolved : Type 0 where
@@ -68,6 +68,10 @@ abbrev pub is_function : Meaning → Bool
 is_function (Operation o) = is_value o.subprogram
 is_function _ = false
 
+-- a function has a value, but not there; what else is named has none
+abbrev pub value_faults : Meaning → Pos → List Fault
+value_faults m at = if is_function m then function_call_out_of_place at else wrong_kind_of_name at
+
 -- procedures, functions and entries have arguments, and arrays an index (RM 4.1.1)
 abbrev pub takes_arguments : Meaning → Bool
 takes_arguments (Builtin b) = true
@@ -104,6 +108,10 @@ not_declared p = denotes_nothing (name_not_declared (part_ident p).at) (part_ide
 abbrev pub of_wrong_kind : NamePart → Resolved
 of_wrong_kind p = denotes_nothing (wrong_kind_of_name (part_ident p).at) (part_ident p).at
 
+-- it does not stand so
+abbrev pub of_no_prefix : Meaning → NamePart → Resolved
+of_no_prefix m p = denotes_nothing (value_faults m (part_ident p).at) (part_ident p).at
+
 -- what stands behind a point and is no entry: a name that is visible there is of the wrong kind
 abbrev pub no_entry : Bool → NamePart → Resolved
 no_entry is_visible p = denotes_nothing (if is_visible then wrong_kind_of_name (part_ident p).at else name_not_declared (part_ident p).at) (part_ident p).at
@@ -115,7 +123,7 @@ entry_selected None owner is_visible p ps = no_entry is_visible p
 
 -- an entry or an operation of an object, behind which stands no further point
 abbrev pub of_object : Meaning → NamePart → Parts → Resolved
-of_object m p ps = if is_last ps then denotes m (part_ident p).at else of_wrong_kind p
+of_object m p ps = if is_last ps then denotes m (part_ident p).at else of_no_prefix m p
 
 abbrev pub kind_selected : PartKind → Instance → NamePart → Parts → Resolved
 kind_selected (part_kind.Entry number unit) x p ps = of_object (Entry (record { number = number; owner = owner.Object x })) p ps
@@ -148,7 +156,7 @@ selected (TaskArray a) (part i (more_args e es)) (more_parts q qs) place = entry
 selected (Protected x) (part i no_args) (more_parts q qs) place = object_selected (is_inside x.access) x q qs place
 selected (Array a) (part i (more_args e es)) (more_parts q qs) place = denotes_nothing [] i.at
 selected Barred p ps place = denotes_nothing (parameter_in_barrier (part_ident p).at) (part_ident p).at
-selected m p ps place = of_wrong_kind p
+selected m p ps place = of_no_prefix m p
 
 abbrev pub denoted_by : Meaning → NamePart → Parts → Place → Resolved
 denoted_by m p ps place = if may_stand m p ps then denotes m (part_ident p).at else selected m p ps place

@@ -6,13 +6,15 @@ ghost use Rattle.aud_syntax.specs.Ties.View.{plain_name, plain_part, part_list, 
 ghost use Rattle.aud_fault.specs.Least.{noted};
 ghost use Rattle.aud_names.specs.Names.{named_in, predefined};
 ghost use Rattle.aud_names.specs.Rules.{name_not_declared};
-ghost use Rattle.aud_names.specs.Resolution.{resolved, or_in_library, in_library, in_text_io, no_entry, entry_selected, is_value, is_function, is_barred, of_object, kind_selected, part_selected, inside_selected, object_selected, selected, denoted_by, takes_arguments, is_plainly, is_text_io, is_last, may_stand, are_none, first_args, last_of, last_args};
+ghost use Rattle.aud_names.specs.Resolution.{resolved, or_in_library, in_library, in_text_io, no_entry, entry_selected, is_value, is_function, value_faults, is_barred, of_object, kind_selected, part_selected, inside_selected, object_selected, selected, denoted_by, takes_arguments, is_plainly, is_text_io, is_last, may_stand, are_none, first_args, last_of, last_args};
 
 use crate::names::{
     Entry, Instance, Meaning, Operation, Owner, Scope, Subprogram, is_inside, predefined,
 };
 use crate::parts::{Part, PartKind};
-use crate::rules::{name_not_declared, parameter_in_barrier, wrong_kind_of_name};
+use crate::rules::{
+    function_call_out_of_place, name_not_declared, parameter_in_barrier, wrong_kind_of_name,
+};
 use aud_fault::fault::Least;
 use aud_syntax::tree::{Expression, Name, NamePart};
 use aud_text::place::Pos;
@@ -88,6 +90,17 @@ pub fn is_function(meaning: Meaning) -> bool
     match meaning {
         Meaning::Operation(operation) => is_value(operation.subprogram),
         _ => false,
+    }
+}
+
+/// Notes of what has no value there that a function's call is out of place, or that it is of the wrong kind.
+pub fn note_no_value(meaning: Meaning, at: Pos, faults: &mut Least)
+    ensures { faults.new ≡ noted faults.old (value_faults meaning at) }
+{
+    if is_function(meaning) {
+        function_call_out_of_place(at, faults);
+    } else {
+        wrong_kind_of_name(at, faults);
     }
 }
 
@@ -184,7 +197,7 @@ fn of_object(meaning: Meaning, part: &NamePart, others: &[NamePart], faults: &mu
             at,
         };
     }
-    wrong_kind_of_name(at, faults);
+    note_no_value(meaning, at, faults);
     Denoted { meaning: None, at }
 }
 
@@ -350,7 +363,7 @@ fn selected(
             Denoted { meaning: None, at }
         }
         _ => {
-            wrong_kind_of_name(at, faults);
+            note_no_value(meaning, at, faults);
             Denoted { meaning: None, at }
         }
     }

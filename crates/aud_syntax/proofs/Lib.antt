@@ -1,3 +1,4 @@
 pub mod Opened
 pub mod Written
 pub mod Placeless
+pub mod Refused

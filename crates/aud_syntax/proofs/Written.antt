@@ -1,9 +1,9 @@
 -- Words that are written one after the other.
-use Rattle.std.proofs.Common.{◌≡◌, ℕ, suc, ◌+◌, ◌<◌, List, [], ◌∷◌, ◌++◌, map, length, drop, get_or, add-one, append_assoc, refl, ap, sym, ◌∙◌}
+use Rattle.std.proofs.Common.{◌≡◌, ℕ, suc, ◌+◌, ◌<◌, ◌≤◌, List, [], ◌∷◌, ◌++◌, map, length, drop, get_or, add-one, append_assoc, refl, ap, sym, ◌∙◌}
 use Rattle.std.proofs.Math.Seq.{drop-cons}
-use Rattle.std.specs.Prelude.{Result, Ok, Err, OnOk}
-use Rattle.std.proofs.Common.{false, ◌==◌}
-use Rattle.std.specs.Prelude.{codes}
+use Rattle.std.proofs.lemmas.List.{drop_all, get_or_default}
+use Rattle.std.proofs.Common.{true, false, ◌==◌}
+use Rattle.std.specs.Prelude.{Result, Ok, Err, OnOk, is_err, codes}
 use Rattle.aud_lex.specs.Why.Spaced.{Word, word, last_word, separator, spaced}
 use Rattle.aud_syntax.specs.declared.tree.Expression.{Expression}
 use Rattle.aud_syntax.specs.Plain as m
@@ -41,37 +41,94 @@ use Rattle.aud_syntax.specs.Ties.View.{plain_expression, plain_chain, plain_boxe
 use Rattle.aud_syntax.specs.Why.Printed.{ident_word, expression_words, name_words, primary_words, argument_words, args_words, more_args_words, otherwise_words, statement_words, more_statements_words, body_words, handled_words, handlers_words, formal_words, more_formals_words, formals_words, declaration_words, declarations_words, head_words, operation_body_words, statements_words, words_behind, delay_words, accept_words, doing_words, alternative_words, other_words}
 use Rattle.aud_syntax.specs.Ties.Heads.{operation_head_words}
 use Rattle.aud_syntax.proofs.Opened.{chain_open, attribute_open, if_open, loop_open, block_open, body_open, procedure_open, task_body_open, operation_body_open, protected_body_open, accept_open, select_open, selected_call_open, accept_alternative_open, delay_alternative_open, or_delay_open, or_else_open}
+use Rattle.aud_syntax.specs.declared.writing.Written.{Written}
+use Rattle.aud_syntax.specs.Ties.Writes.{Appends, Writes}
 
 pub spaced_append : (a b : List Word) → spaced (a ++ b) ≡ spaced a ++ spaced b
 spaced_append [] b = refl
 spaced_append (w ∷ a) b = ap (λ z. w.bytes ++ (separator w.is_last ∷ z)) (spaced_append a b) ∙ sym (append_assoc w.bytes (separator w.is_last ∷ spaced a) (spaced b))
 
+-- some bytes, and then others
+infixr 30 ◌more◌
+pub ◌more◌ : {a b c : Written} {x y : List ℕ} → Appends a b x → Appends b c y → Appends a c (x ++ y)
+◌more◌ {a} {b} {c} {x} {y} h k = record {
+  kept = λ e. h.kept (k.kept e);
+  items = λ e. k.items e ∙ ap (λ z. z ++ y) (h.items (k.kept e)) ∙ append_assoc a.text.items x y;
+}
+
+-- nothing is appended once memory was refused
+pub refused_before : {a : Written} {bytes : List ℕ} → a.refused ≡ true → Appends a a bytes
+refused_before h = record { kept = λ e. e; items = λ e. cc }
+
+-- what a call appends by which memory may be refused
+pub appended_unless : {T E : Type 0} {a b : Written} {bytes : List ℕ} (r : Result T E) → a.refused ≡ false → b.refused ≡ is_err r → OnOk r (b.text.items ≡ a.text.items ++ bytes) → Appends a b bytes
+appended_unless (Ok x) h e k = record { kept = λ _. h; items = λ _. k }
+appended_unless (Err x) h e k = record { kept = λ _. h; items = λ f. cc }
+
 -- some words, and then others
-pub both_written : (old mid new : List ℕ) (a b : List Word) → mid ≡ old ++ spaced a → new ≡ mid ++ spaced b → new ≡ old ++ spaced (a ++ b)
-both_written old mid new a b h k = k ∙ ap (λ z. z ++ spaced b) h ∙ append_assoc old (spaced a) (spaced b) ∙ ap (λ z. old ++ z) (sym (spaced_append a b))
+infixr 30 ◌then◌
+pub ◌then◌ : {a b c : Written} {x y : List Word} → Writes a b x → Writes b c y → Writes a c (x ++ y)
+◌then◌ {a} {b} {c} {x} {y} h k = record { appends = subst (λ z. Appends a c z) (sym (spaced_append x y)) (h.appends more k.appends) }
 
--- the same where memory may be refused
-pub all_written : {X E : Type 0} (r : Result X E) (old mid new : List ℕ) (a b : List Word) → mid ≡ old ++ spaced a → OnOk r (new ≡ mid ++ spaced b) → OnOk r (new ≡ old ++ spaced (a ++ b))
-all_written (Ok x) old mid new a b h k = both_written old mid new a b h k
-all_written (Err e) old mid new a b h k = tt
+pub nothing_appended : {a : Written} → Appends a a []
+nothing_appended {a} = record { kept = λ e. e; items = λ e. sym (append-nil a.text.items) }
 
--- of words that are still to be written the first are written
-pub one_written : (old new all : List ℕ) (a b : List Word) → old ++ spaced (a ++ b) ≡ all → new ≡ old ++ spaced a → new ++ spaced b ≡ all
-one_written old new all a b h k = ap (λ z. z ++ spaced b) k ∙ append_assoc old (spaced a) (spaced b) ∙ ap (λ z. old ++ z) (sym (spaced_append a b)) ∙ h
+pub nothing_written : {a : Written} → Writes a a []
+nothing_written = record { appends = nothing_appended }
+
+-- of all words that a function writes the last ones are left to be written
+pub record Remains (begun now : Written) (all left : List Word) : Type 0 where
+  pub rest : (after : Written) → Writes now after left → Writes begun after all
+
+pub all_remain : {a : Written} (all : List Word) → Remains a a all all
+all_remain all = record { rest = λ after h. h }
+
+pub some_remain : {a b : Written} {x : List Word} (left : List Word) → Writes a b x → Remains a b (x ++ left) left
+some_remain left h = record { rest = λ after k. h then k }
+
+pub one_fewer : {a b c : Written} {all x : List Word} (left : List Word) → Remains a b all (x ++ left) → Writes b c x → Remains a c all left
+one_fewer left h k = record { rest = λ after l. h.rest after (k then l) }
+
+pub none_remain : {a b : Written} {all : List Word} → Remains a b all [] → Writes a b all
+none_remain {b = b} h = h.rest b nothing_written
+
+-- of all bytes that a function writes the last ones are left to be written
+pub record Lacks (begun now : Written) (all left : List ℕ) : Type 0 where
+  pub rest : (after : Written) → Appends now after left → Appends begun after all
 
 -- what a loop over a list has before it
 pub dropped : {A : Type 0} (xs : List A) (i : ℕ) (x : A) → i < length xs → x ≡ get_or xs i x → drop i xs ≡ x ∷ drop (i + 1) xs
 dropped xs i x h e = rw (add-one, drop-cons xs i x) (ap (λ z. z ∷ drop (suc i) xs) (sym e))
 
+-- a loop over bytes writes those that stand for one more
+pub next_appended : {a b c : Written} {all : List ℕ} (bytes : List ℕ → List ℕ) → ((x : ℕ) (xs : List ℕ) → bytes (x ∷ xs) ≡ bytes (x ∷ []) ++ bytes xs) →
+    (xs : List ℕ) (i : ℕ) → i < length xs → Lacks a b all (bytes (drop i xs)) → Appends b c (bytes (get_or xs i 0 ∷ [])) → Lacks a c all (bytes (drop (i + 1) xs))
+next_appended {a = a} {b = b} {all = all} bytes opens xs i h l k =
+    let x : ℕ = get_or xs i 0 in
+    let opened : bytes (drop i xs) ≡ bytes (x ∷ []) ++ bytes (drop (i + 1) xs) = ap bytes (dropped xs i x h (get_or_default xs i 0 x h)) ∙ opens x (drop (i + 1) xs) in
+    let lacks : Lacks a b all (bytes (x ∷ []) ++ bytes (drop (i + 1) xs)) = subst (λ z. Lacks a b all z) opened l in
+    record { rest = λ after m. lacks.rest after (k more m) }
+
+-- a loop over bytes has written those that stand for all
+pub bytes_end : {a b : Written} {all : List ℕ} (bytes : List ℕ → List ℕ) → bytes [] ≡ [] → (xs : List ℕ) (i : ℕ) → length xs ≤ i → Lacks a b all (bytes (drop i xs)) → Appends a b all
+bytes_end {a} {b} {all} bytes e xs i h l =
+    let lacks : Lacks a b all [] = subst (λ z. Lacks a b all z) (ap bytes (drop_all i xs h) ∙ e) l in
+    lacks.rest b nothing_appended
+
 -- a loop over a list writes the words of one more
-pub next_written : {A : Type 0} (words : List A → List Word) (one : A → List Word) → ((x : A) (xs : List A) → words (x ∷ xs) ≡ one x ++ words xs) →
-    (xs : List A) (i : ℕ) (x : A) → i < length xs → x ≡ get_or xs i x → (old new all : List ℕ) → old ++ spaced (words (drop i xs)) ≡ all → new ≡ old ++ spaced (one x) → new ++ spaced (words (drop (i + 1) xs)) ≡ all
-next_written words one opens xs i x h e old new all a k =
-    one_written old new all (one x) (words (drop (i + 1) xs)) (ap (λ z. old ++ spaced z) (sym (ap words (dropped xs i x h e) ∙ opens x (drop (i + 1) xs))) ∙ a) k
+pub next_written : {A : Type 0} {a b c : Written} {all : List Word} (words : List A → List Word) (one : A → List Word) → ((x : A) (xs : List A) → words (x ∷ xs) ≡ one x ++ words xs) →
+    (xs : List A) (i : ℕ) (x : A) → i < length xs → x ≡ get_or xs i x → Remains a b all (words (drop i xs)) → Writes b c (one x) → Remains a c all (words (drop (i + 1) xs))
+next_written {a = a} {b = b} {all = all} words one opens xs i x h e l k =
+    one_fewer (words (drop (i + 1) xs)) (subst (λ z. Remains a b all z) (ap words (dropped xs i x h e) ∙ opens x (drop (i + 1) xs)) l) k
+
+-- a loop over a list has written the words of all
+pub loop_ends : {A : Type 0} {a b : Written} {all : List Word} (words : List A → List Word) → words [] ≡ [] → (xs : List A) (i : ℕ) → length xs ≤ i → Remains a b all (words (drop i xs)) → Writes a b all
+loop_ends {a = a} {b = b} {all = all} words e xs i h l = none_remain (subst (λ z. Remains a b all z) (ap words (drop_all i xs h) ∙ e) l)
 
 -- some words are written before a loop over a list writes the others
-pub loop_begins : {A : Type 0} (words : List A → List Word) (xs ys : List A) → ys ≡ xs → (old new : List ℕ) (before all : List Word) → all ≡ before ++ words xs → new ≡ old ++ spaced before → new ++ spaced (words ys) ≡ old ++ spaced all
-loop_begins words xs ys e old new before all h k = ap (λ z. new ++ spaced (words z)) e ∙ one_written old new (old ++ spaced all) before (words xs) (ap (λ z. old ++ spaced z) (sym h)) k
+pub loop_begins : {A : Type 0} {a b : Written} {before : List Word} (words : List A → List Word) (xs ys : List A) → ys ≡ xs → Writes a b before → (all : List Word) → all ≡ before ++ words xs → Remains a b all (words ys)
+loop_begins {a = a} {b = b} words xs ys e k all h =
+    subst (λ z. Remains a b all (words z)) (sym e) (subst (λ z. Remains a b z (words xs)) (sym h) (some_remain (words xs) k))
 
 -- arguments, the first behind this word and each other one behind a comma
 abbrev pub listed : List ℕ → m.Args → List Word
@@ -82,67 +139,64 @@ more_listed : (xs : m.Args) → more_args_words xs ≡ listed (codes ",") xs
 more_listed m.no_args = refl
 more_listed (m.more_args e xs) = refl
 
-pub argument_written : (out mid new all before : List ℕ) (x : Expression) (xs ys : List Expression) → xs ≡ x ∷ ys → out ++ spaced (listed before (plain_expressions xs)) ≡ all →
-    mid ≡ out ++ spaced (word before ∷ []) → new ≡ mid ++ spaced (expression_words (plain_expression x)) → new ++ spaced (listed (codes ",") (plain_expressions ys)) ≡ all
-argument_written out mid new all before x xs ys e h k l =
-    one_written out new all (word before ∷ expression_words (plain_expression x)) (listed (codes ",") (plain_expressions ys))
-    (ap (λ z. out ++ spaced (word before ∷ (expression_words (plain_expression x) ++ z))) (sym (more_listed (plain_expressions ys))) ∙ sym (ap (λ z. out ++ spaced (listed before (plain_expressions z))) e) ∙ h)
-    (both_written out mid new (word before ∷ []) (expression_words (plain_expression x)) k l)
+pub argument_written : {a b c d : Written} {all : List Word} (before : List ℕ) (x : Expression) (xs ys : List Expression) → xs ≡ x ∷ ys → Remains a b all (listed before (plain_expressions xs)) →
+    Writes b c (word before ∷ []) → Writes c d (expression_words (plain_expression x)) → Remains a d all (listed (codes ",") (plain_expressions ys))
+argument_written {a} {b} {all = all} before x xs ys e h k l =
+    let words : listed before (plain_expressions xs) ≡ word before ∷ (expression_words (plain_expression x) ++ listed (codes ",") (plain_expressions ys)) =
+    ap (λ z. listed before (plain_expressions z)) e ∙ ap (λ z. word before ∷ (expression_words (plain_expression x) ++ z)) (more_listed (plain_expressions ys)) in
+    one_fewer (listed (codes ",") (plain_expressions ys)) (subst (λ z. Remains a b all z) words h) (k then l)
 
 some_arguments : (xs : List Expression) → (length xs == 0) ≡ false → listed (codes "(") (plain_expressions xs) ++ (word (codes ")") ∷ []) ≡ args_words (plain_expressions xs)
 some_arguments [] e = cc
 some_arguments (x ∷ xs) e = refl
 
 -- the last argument behind an identifier is written, and the parenthesis that closes
-pub arguments_end : {X E : Type 0} (r : Result X E) (old out new before : List ℕ) (i : Ident) (xs ys : List Expression) → ys ≡ [] → out ++ spaced (listed before (plain_expressions ys)) ≡ old ++ spaced (ident_word i ∷ listed (codes "(") (plain_expressions xs)) →
-    (length xs == 0) ≡ false → OnOk r (new ≡ out ++ spaced (word (codes ")") ∷ [])) → OnOk r (new ≡ old ++ spaced (ident_word i ∷ args_words (plain_expressions xs)))
-arguments_end r old out new before i xs ys e h n k =
-    let all : out ≡ old ++ spaced (ident_word i ∷ listed (codes "(") (plain_expressions xs)) = sym (append-nil out) ∙ sym (ap (λ z. out ++ spaced (listed before (plain_expressions z))) e) ∙ h in
-    subst (λ z. OnOk r (new ≡ old ++ spaced (ident_word i ∷ z))) (some_arguments xs n) (all_written r old out new (ident_word i ∷ listed (codes "(") (plain_expressions xs)) (word (codes ")") ∷ []) all k)
+pub arguments_end : {a b c : Written} (before : List ℕ) (i : Ident) (xs ys : List Expression) → ys ≡ [] → Remains a b (ident_word i ∷ listed (codes "(") (plain_expressions xs)) (listed before (plain_expressions ys)) →
+    (length xs == 0) ≡ false → Writes b c (word (codes ")") ∷ []) → Writes a c (ident_word i ∷ args_words (plain_expressions xs))
+arguments_end {a} {b} {c} before i xs ys e h n k =
+    let all : List Word = ident_word i ∷ listed (codes "(") (plain_expressions xs) in
+    let written : Writes a b all = none_remain (subst (λ z. Remains a b all (listed before (plain_expressions z))) e h) in
+    subst (λ z. Writes a c (ident_word i ∷ z)) (some_arguments xs n) (written then k)
 
 -- the words of a tree, by its parts
-pub written_as : {X E M : Type 0} (words : M → List Word) (r : Result X E) (old new : List ℕ) (x y : M) → x ≡ y → OnOk r (new ≡ old ++ spaced (words y)) → OnOk r (new ≡ old ++ spaced (words x))
-written_as words r old new x y e h = subst (λ z. OnOk r (new ≡ old ++ spaced (words z))) (sym e) h
+pub written_as : {a b : Written} {M : Type 0} (words : M → List Word) (x y : M) → x ≡ y → Writes a b (words y) → Writes a b (words x)
+written_as {a} {b} words x y e h = subst (λ z. Writes a b (words z)) (sym e) h
 
 -- relations with operators between them, as an expression
-pub chain_written : {X E : Type 0} (r : Result X E) (old new : List ℕ) (x : Box Chain Global) → OnOk r (new ≡ old ++ spaced (expression_words (plain_chain x.value))) → OnOk r (new ≡ old ++ spaced (expression_words (plain_expression (Connected x))))
-chain_written r old new x h = written_as expression_words r old new (plain_expression (Connected x)) (plain_chain x.value) (chain_open x) h
+pub chain_written : {a b : Written} (x : Box Chain Global) → Writes a b (expression_words (plain_chain x.value)) → Writes a b (expression_words (plain_expression (Connected x)))
+chain_written x h = written_as expression_words (plain_expression (Connected x)) (plain_chain x.value) (chain_open x) h
 
 -- an attribute as a primary
-pub attribute_written : {X E : Type 0} (r : Result X E) (old a b c new : List ℕ) (x : Box name.Name Global) (i : Ident) (e : Option (Box Expression Global)) → a ≡ old ++ spaced (name_words (plain_name x.value)) → b ≡ a ++ spaced (word (codes "'") ∷ []) →
-    c ≡ b ++ spaced (ident_word i ∷ []) → OnOk r (new ≡ c ++ spaced (argument_words (plain_boxed e))) → OnOk r (new ≡ old ++ spaced (primary_words (plain_primary (primary.Attribute x i e))))
-attribute_written r old a b c new x i e h k l n =
-    subst (λ z. OnOk r (new ≡ old ++ spaced (primary_words z))) (sym (attribute_open x i e))
-    (all_written r old a new (name_words (plain_name x.value)) (word (codes "'") ∷ ident_word i ∷ argument_words (plain_boxed e)) h
-    (all_written r a b new (word (codes "'") ∷ []) (ident_word i ∷ argument_words (plain_boxed e)) k
-    (all_written r b c new (ident_word i ∷ []) (argument_words (plain_boxed e)) l n)))
+pub attribute_written : {a b c d e : Written} (x : Box name.Name Global) (i : Ident) (argument : Option (Box Expression Global)) → Writes a b (name_words (plain_name x.value)) → Writes b c (word (codes "'") ∷ []) →
+    Writes c d (ident_word i ∷ []) → Writes d e (argument_words (plain_boxed argument)) → Writes a e (primary_words (plain_primary (primary.Attribute x i argument)))
+attribute_written {a} {e = e} x i argument h k l n = subst (λ z. Writes a e (primary_words z)) (sym (attribute_open x i argument)) (h then k then l then n)
 
-pub attribute_alone : (old a b c : List ℕ) (x : Box name.Name Global) (i : Ident) → a ≡ old ++ spaced (name_words (plain_name x.value)) → b ≡ a ++ spaced (word (codes "'") ∷ []) → c ≡ b ++ spaced (ident_word i ∷ []) →
-    c ≡ old ++ spaced (primary_words (plain_primary (primary.Attribute x i None)))
-attribute_alone old a b c x i h k l = attribute_written {X = ℕ} {E = ℕ} (Ok 0) old a b c c x i None h k l (sym (append-nil c))
+pub attribute_alone : {a b c d : Written} (x : Box name.Name Global) (i : Ident) → Writes a b (name_words (plain_name x.value)) → Writes b c (word (codes "'") ∷ []) → Writes c d (ident_word i ∷ []) →
+    Writes a d (primary_words (plain_primary (primary.Attribute x i None)))
+attribute_alone x i h k l = attribute_written x i None h k l nothing_written
 
 -- an if statement and a loop, as statements
-pub if_written : {X E : Type 0} (r : Result X E) (old new : List ℕ) (x : IfStatement) → OnOk r (new ≡ old ++ spaced (statement_words (plain_if_statement x))) → OnOk r (new ≡ old ++ spaced (statement_words (plain_if x)))
-if_written r old new x h = written_as statement_words r old new (plain_if x) (plain_if_statement x) (if_open x) h
+pub if_written : {a b : Written} (x : IfStatement) → Writes a b (statement_words (plain_if_statement x)) → Writes a b (statement_words (plain_if x))
+if_written x h = written_as statement_words (plain_if x) (plain_if_statement x) (if_open x) h
 
-pub loop_written : {X E : Type 0} (r : Result X E) (old new : List ℕ) (x : Box LoopStatement Global) → OnOk r (new ≡ old ++ spaced (statement_words (plain_loop_statement x.value))) → OnOk r (new ≡ old ++ spaced (statement_words (plain_statement (Loop x))))
-loop_written r old new x h = written_as statement_words r old new (plain_statement (Loop x)) (plain_loop_statement x.value) (loop_open x) h
+pub loop_written : {a b : Written} (x : Box LoopStatement Global) → Writes a b (statement_words (plain_loop_statement x.value)) → Writes a b (statement_words (plain_statement (Loop x)))
+loop_written x h = written_as statement_words (plain_statement (Loop x)) (plain_loop_statement x.value) (loop_open x) h
 
 -- a block, as a statement
-pub block_written : {X E : Type 0} (r : Result X E) (old new : List ℕ) (x : BlockStatement) → OnOk r (new ≡ old ++ spaced (statement_words (plain_block_statement x))) → OnOk r (new ≡ old ++ spaced (statement_words (plain_block x)))
-block_written r old new x h = written_as statement_words r old new (plain_block x) (plain_block_statement x) (block_open x) h
+pub block_written : {a b : Written} (x : BlockStatement) → Writes a b (statement_words (plain_block_statement x)) → Writes a b (statement_words (plain_block x))
+block_written x h = written_as statement_words (plain_block x) (plain_block_statement x) (block_open x) h
 
 -- a procedure, as a declaration
-pub procedure_written : {X E : Type 0} (r : Result X E) (old new : List ℕ) (x : ProcedureDeclaration) → OnOk r (new ≡ old ++ spaced (declaration_words (plain_procedure_parts x))) → OnOk r (new ≡ old ++ spaced (declaration_words (plain_procedure x)))
-procedure_written r old new x h = written_as declaration_words r old new (plain_procedure x) (plain_procedure_parts x) (procedure_open x) h
+pub procedure_written : {a b : Written} (x : ProcedureDeclaration) → Writes a b (declaration_words (plain_procedure_parts x)) → Writes a b (declaration_words (plain_procedure x))
+procedure_written x h = written_as declaration_words (plain_procedure x) (plain_procedure_parts x) (procedure_open x) h
 
 -- the body of a task, as a declaration
-pub task_body_written : {X E : Type 0} (r : Result X E) (old new : List ℕ) (x : TaskBody) → OnOk r (new ≡ old ++ spaced (declaration_words (plain_task_body_parts x))) → OnOk r (new ≡ old ++ spaced (declaration_words (plain_task_body x)))
-task_body_written r old new x h = written_as declaration_words r old new (plain_task_body x) (plain_task_body_parts x) (task_body_open x) h
+pub task_body_written : {a b : Written} (x : TaskBody) → Writes a b (declaration_words (plain_task_body_parts x)) → Writes a b (declaration_words (plain_task_body x))
+task_body_written x h = written_as declaration_words (plain_task_body x) (plain_task_body_parts x) (task_body_open x) h
 
 -- the body of a protected object, as a declaration
-pub protected_body_written : {X E : Type 0} (r : Result X E) (old new : List ℕ) (x : ProtectedBody) → OnOk r (new ≡ old ++ spaced (declaration_words (plain_protected_body_parts x))) → OnOk r (new ≡ old ++ spaced (declaration_words (plain_protected_body x)))
-protected_body_written r old new x h = written_as declaration_words r old new (plain_protected_body x) (plain_protected_body_parts x) (protected_body_open x) h
+pub protected_body_written : {a b : Written} (x : ProtectedBody) → Writes a b (declaration_words (plain_protected_body_parts x)) → Writes a b (declaration_words (plain_protected_body x))
+protected_body_written x h = written_as declaration_words (plain_protected_body x) (plain_protected_body_parts x) (protected_body_open x) h
 
 -- the body of an operation, by its head and what stands behind its `is`
 
@@ -154,19 +208,15 @@ headed operation_kind.Procedure at i formals ds x = refl
 headed (operation_kind.Function subtype) at i formals ds x =
     sym (append_assoc (head_words (codes "function") i formals) (word (codes "return") ∷ ident_word subtype ∷ []) (last_word (codes "is") ∷ (declarations_words ds ++ body_words x)))
 
-pub operation_body_written : {X E : Type 0} (r : Result X E) (old new : List ℕ) (s : OperationBody) →
-    (let x = out-OperationBody s in OnOk r (new ≡ old ++ spaced (operation_head_words x.kind x.name (map plain_formal x.formals.items) ++ (last_word (codes "is") ∷ (declarations_words (plain_declarations x.declarations.items) ++ body_words (plain_body x.body)))))) →
-    OnOk r (new ≡ old ++ spaced (operation_body_words (plain_operation_body s)))
-operation_body_written r old new s h =
+pub operation_body_written : {a b : Written} (s : OperationBody) →
+    (let x = out-OperationBody s in Writes a b (operation_head_words x.kind x.name (map plain_formal x.formals.items) ++ (last_word (codes "is") ∷ (declarations_words (plain_declarations x.declarations.items) ++ body_words (plain_body x.body))))) →
+    Writes a b (operation_body_words (plain_operation_body s))
+operation_body_written {a} {b} s h =
     let x = out-OperationBody s in
-    written_as operation_body_words r old new (plain_operation_body s) (plain_operation_body_parts s) (operation_body_open s)
-    (subst (λ z. OnOk r (new ≡ old ++ spaced z)) (sym (headed x.kind x.at x.name (map plain_formal x.formals.items) (plain_declarations x.declarations.items) (plain_body x.body))) h)
+    written_as operation_body_words (plain_operation_body s) (plain_operation_body_parts s) (operation_body_open s)
+    (subst (λ z. Writes a b z) (sym (headed x.kind x.at x.name (map plain_formal x.formals.items) (plain_declarations x.declarations.items) (plain_body x.body))) h)
 
--- statements with handlers, by their parts
-pub body_written : {X E : Type 0} (r : Result X E) (old new : List ℕ) (x : Body) → OnOk r (new ≡ old ++ spaced (body_words (plain_body_parts x))) → OnOk r (new ≡ old ++ spaced (body_words (plain_body x)))
-body_written r old new x h = written_as body_words r old new (plain_body x) (plain_body_parts x) (body_open x) h
-
--- the same behind another word than `begin`
+-- statements with handlers, by their parts, behind `begin` or another word
 
 body_behind : (x : m.Body) → body_words x ≡ words_behind (codes "begin") x
 body_behind (m.body begin statements hs end last semicolon) = refl
@@ -174,68 +224,54 @@ body_behind (m.body begin statements hs end last semicolon) = refl
 doing_behind : (x : m.Body) → doing_words (m.with_do x) ≡ words_behind (codes "do") x
 doing_behind (m.body begin statements hs end last semicolon) = refl
 
-pub enclosed_written : {X E : Type 0} (r : Result X E) (old new spelling : List ℕ) (x : Body) → OnOk r (new ≡ old ++ spaced (words_behind spelling (plain_body_parts x))) → OnOk r (new ≡ old ++ spaced (words_behind spelling (plain_body x)))
-enclosed_written r old new spelling x h = written_as (words_behind spelling) r old new (plain_body x) (plain_body_parts x) (body_open x) h
+pub enclosed_written : {a b : Written} (spelling : List ℕ) (x : Body) → Writes a b (words_behind spelling (plain_body_parts x)) → Writes a b (words_behind spelling (plain_body x))
+enclosed_written spelling x h = written_as (words_behind spelling) (plain_body x) (plain_body_parts x) (body_open x) h
 
-pub begin_written : {X E : Type 0} (r : Result X E) (old new : List ℕ) (x : m.Body) → OnOk r (new ≡ old ++ spaced (words_behind (codes "begin") x)) → OnOk r (new ≡ old ++ spaced (body_words x))
-begin_written r old new x h = subst (λ z. OnOk r (new ≡ old ++ spaced z)) (sym (body_behind x)) h
+pub begin_written : {a b : Written} (x : m.Body) → Writes a b (words_behind (codes "begin") x) → Writes a b (body_words x)
+begin_written {a} {b} x h = subst (λ z. Writes a b z) (sym (body_behind x)) h
 
-pub do_written : {X E : Type 0} (r : Result X E) (old new : List ℕ) (x : m.Body) → OnOk r (new ≡ old ++ spaced (words_behind (codes "do") x)) → OnOk r (new ≡ old ++ spaced (doing_words (m.with_do x)))
-do_written r old new x h = subst (λ z. OnOk r (new ≡ old ++ spaced z)) (sym (doing_behind x)) h
+pub do_written : {a b : Written} (x : m.Body) → Writes a b (words_behind (codes "do") x) → Writes a b (doing_words (m.with_do x))
+do_written {a} {b} x h = subst (λ z. Writes a b z) (sym (doing_behind x)) h
 
 -- accept and select statements, by their parts
 
-pub accept_written : {X E : Type 0} (r : Result X E) (old new : List ℕ) (x : AcceptStatement) → OnOk r (new ≡ old ++ spaced (accept_words (plain_accept_parts x))) → OnOk r (new ≡ old ++ spaced (accept_words (plain_accept x)))
-accept_written r old new x h = written_as accept_words r old new (plain_accept x) (plain_accept_parts x) (accept_open x) h
+pub accept_written : {a b : Written} (x : AcceptStatement) → Writes a b (accept_words (plain_accept_parts x)) → Writes a b (accept_words (plain_accept x))
+accept_written x h = written_as accept_words (plain_accept x) (plain_accept_parts x) (accept_open x) h
 
-pub select_written : {X E : Type 0} (r : Result X E) (old new : List ℕ) (x : SelectStatement) → OnOk r (new ≡ old ++ spaced (statement_words (plain_select_statement x))) → OnOk r (new ≡ old ++ spaced (statement_words (plain_select x)))
-select_written r old new x h = written_as statement_words r old new (plain_select x) (plain_select_statement x) (select_open x) h
+pub select_written : {a b : Written} (x : SelectStatement) → Writes a b (statement_words (plain_select_statement x)) → Writes a b (statement_words (plain_select x))
+select_written x h = written_as statement_words (plain_select x) (plain_select_statement x) (select_open x) h
 
-pub selected_call_written : {X E : Type 0} (r : Result X E) (old new : List ℕ) (x : Box SelectedCall Global) → OnOk r (new ≡ old ++ spaced (statement_words (plain_selected_call x.value))) → OnOk r (new ≡ old ++ spaced (statement_words (plain_statement (SelectCall x))))
-selected_call_written r old new x h = written_as statement_words r old new (plain_statement (SelectCall x)) (plain_selected_call x.value) (selected_call_open x) h
+pub selected_call_written : {a b : Written} (x : Box SelectedCall Global) → Writes a b (statement_words (plain_selected_call x.value)) → Writes a b (statement_words (plain_statement (SelectCall x)))
+selected_call_written x h = written_as statement_words (plain_statement (SelectCall x)) (plain_selected_call x.value) (selected_call_open x) h
 
-pub accept_alternative_written : {X E : Type 0} (r : Result X E) (old mid new : List ℕ) (x : AcceptStatement) (v : Vec Statement Global) → mid ≡ old ++ spaced (accept_words (plain_accept x)) → OnOk r (new ≡ mid ++ spaced (more_statements_words (plain_others v.items))) →
-    OnOk r (new ≡ old ++ spaced (alternative_words (plain_alternative (alternative.Accept x v))))
-accept_alternative_written r old mid new x v h k =
-    written_as alternative_words r old new (plain_alternative (alternative.Accept x v)) (m.accept_alternative (plain_accept x) (plain_others v.items)) (accept_alternative_open x v)
-    (all_written r old mid new (accept_words (plain_accept x)) (more_statements_words (plain_others v.items)) h k)
+pub accept_alternative_written : {a b c : Written} (x : AcceptStatement) (v : Vec Statement Global) → Writes a b (accept_words (plain_accept x)) → Writes b c (more_statements_words (plain_others v.items)) →
+    Writes a c (alternative_words (plain_alternative (alternative.Accept x v)))
+accept_alternative_written x v h k = written_as alternative_words (plain_alternative (alternative.Accept x v)) (m.accept_alternative (plain_accept x) (plain_others v.items)) (accept_alternative_open x v) (h then k)
 
-pub delay_alternative_written : {X E : Type 0} (r : Result X E) (old mid new : List ℕ) (x : Delay) (v : Vec Statement Global) → mid ≡ old ++ spaced (delay_words (plain_delay x)) → OnOk r (new ≡ mid ++ spaced (more_statements_words (plain_others v.items))) →
-    OnOk r (new ≡ old ++ spaced (alternative_words (plain_alternative (alternative.Delay x v))))
-delay_alternative_written r old mid new x v h k =
-    written_as alternative_words r old new (plain_alternative (alternative.Delay x v)) (m.delay_alternative (plain_delay x) (plain_others v.items)) (delay_alternative_open x v)
-    (all_written r old mid new (delay_words (plain_delay x)) (more_statements_words (plain_others v.items)) h k)
+pub delay_alternative_written : {a b c : Written} (x : Delay) (v : Vec Statement Global) → Writes a b (delay_words (plain_delay x)) → Writes b c (more_statements_words (plain_others v.items)) →
+    Writes a c (alternative_words (plain_alternative (alternative.Delay x v)))
+delay_alternative_written x v h k = written_as alternative_words (plain_alternative (alternative.Delay x v)) (m.delay_alternative (plain_delay x) (plain_others v.items)) (delay_alternative_open x v) (h then k)
 
-pub or_delay_written : {X E : Type 0} (r : Result X E) (old first mid new : List ℕ) (x : Delay) (v : Vec Statement Global) → first ≡ old ++ spaced (last_word (codes "or") ∷ []) → mid ≡ first ++ spaced (delay_words (plain_delay x)) →
-    OnOk r (new ≡ mid ++ spaced (more_statements_words (plain_others v.items))) → OnOk r (new ≡ old ++ spaced (other_words (plain_other (otherwise.Delay x v))))
-or_delay_written r old first mid new x v h k l =
-    written_as other_words r old new (plain_other (otherwise.Delay x v)) (m.or_delay (plain_delay x) (plain_others v.items)) (or_delay_open x v)
-    (all_written r old first new (last_word (codes "or") ∷ []) (delay_words (plain_delay x) ++ more_statements_words (plain_others v.items)) h
-    (all_written r first mid new (delay_words (plain_delay x)) (more_statements_words (plain_others v.items)) k l))
+pub or_delay_written : {a b c d : Written} (x : Delay) (v : Vec Statement Global) → Writes a b (last_word (codes "or") ∷ []) → Writes b c (delay_words (plain_delay x)) → Writes c d (more_statements_words (plain_others v.items)) →
+    Writes a d (other_words (plain_other (otherwise.Delay x v)))
+or_delay_written x v h k l = written_as other_words (plain_other (otherwise.Delay x v)) (m.or_delay (plain_delay x) (plain_others v.items)) (or_delay_open x v) (h then k then l)
 
-pub or_else_written : {X E : Type 0} (r : Result X E) (old mid new : List ℕ) (x : Statements) → mid ≡ old ++ spaced (last_word (codes "else") ∷ []) → OnOk r (new ≡ mid ++ spaced (statements_words (plain_statements x))) →
-    OnOk r (new ≡ old ++ spaced (other_words (plain_other (otherwise.Else x))))
-or_else_written r old mid new x h k =
-    written_as other_words r old new (plain_other (otherwise.Else x)) (m.or_else (plain_statements x)) (or_else_open x)
-    (all_written r old mid new (last_word (codes "else") ∷ []) (statements_words (plain_statements x)) h k)
+pub or_else_written : {a b c : Written} (x : Statements) → Writes a b (last_word (codes "else") ∷ []) → Writes b c (statements_words (plain_statements x)) → Writes a c (other_words (plain_other (otherwise.Else x)))
+or_else_written x h k = written_as other_words (plain_other (otherwise.Else x)) (m.or_else (plain_statements x)) (or_else_open x) (h then k)
 
 -- an else part
-pub else_written : {X E : Type 0} (r : Result X E) (old mid new : List ℕ) (xs : List Statement) → (length xs == 0) ≡ false → mid ≡ old ++ spaced (last_word (codes "else") ∷ []) → OnOk r (new ≡ mid ++ spaced (more_statements_words (plain_others xs))) →
-    OnOk r (new ≡ old ++ spaced (otherwise_words (plain_others xs) (more_statements_words (plain_others xs))))
-else_written r old mid new [] e h k = cc
-else_written r old mid new (x ∷ xs) e h k = all_written r old mid new (last_word (codes "else") ∷ []) (more_statements_words (plain_others (x ∷ xs))) h k
+pub else_written : {a b c : Written} (xs : List Statement) → (length xs == 0) ≡ false → Writes a b (last_word (codes "else") ∷ []) → Writes b c (more_statements_words (plain_others xs)) →
+    Writes a c (otherwise_words (plain_others xs) (more_statements_words (plain_others xs)))
+else_written [] e h k = cc
+else_written (x ∷ xs) e h k = h then k
 
 -- handlers
-pub handled_written : {X E : Type 0} (r : Result X E) (old mid new : List ℕ) (xs : List Handler) → (length xs == 0) ≡ false → mid ≡ old ++ spaced (last_word (codes "exception") ∷ []) → OnOk r (new ≡ mid ++ spaced (handlers_words (handler_list xs))) →
-    OnOk r (new ≡ old ++ spaced (handled_words (handler_list xs) (handlers_words (handler_list xs))))
-handled_written r old mid new [] e h k = cc
-handled_written r old mid new (x ∷ xs) e h k = all_written r old mid new (last_word (codes "exception") ∷ []) (handlers_words (handler_list (x ∷ xs))) h k
+pub handled_written : {a b c : Written} (xs : List Handler) → (length xs == 0) ≡ false → Writes a b (last_word (codes "exception") ∷ []) → Writes b c (handlers_words (handler_list xs)) →
+    Writes a c (handled_words (handler_list xs) (handlers_words (handler_list xs)))
+handled_written [] e h k = cc
+handled_written (x ∷ xs) e h k = h then k
 
 -- formal parameters in their parentheses
-pub formals_written : {X E : Type 0} (r : Result X E) (old a b c new : List ℕ) (x : Formal) (xs all : List Formal) → all ≡ x ∷ xs → a ≡ old ++ spaced (word (codes "(") ∷ []) → b ≡ a ++ spaced (formal_words (plain_formal x)) →
-    c ≡ b ++ spaced (more_formals_words (map plain_formal xs)) → OnOk r (new ≡ c ++ spaced (word (codes ")") ∷ [])) → OnOk r (new ≡ old ++ spaced (formals_words (map plain_formal all)))
-formals_written r old a b c new x xs all e h k l n =
-    let inner : List Word = formal_words (plain_formal x) ++ more_formals_words (map plain_formal xs) in
-    subst (λ z. OnOk r (new ≡ old ++ spaced (formals_words (map plain_formal z)))) (sym e)
-    (all_written r old a new (word (codes "(") ∷ []) (inner ++ (word (codes ")") ∷ [])) h
-    (all_written r a c new inner (word (codes ")") ∷ []) (both_written a b c (formal_words (plain_formal x)) (more_formals_words (map plain_formal xs)) k l) n))
+pub formals_written : {a b c d e : Written} (x : Formal) (xs all : List Formal) → all ≡ x ∷ xs → Writes a b (word (codes "(") ∷ []) → Writes b c (formal_words (plain_formal x)) →
+    Writes c d (more_formals_words (map plain_formal xs)) → Writes d e (word (codes ")") ∷ []) → Writes a e (formals_words (map plain_formal all))
+formals_written {a} {e = e} x xs all is h k l n = subst (λ z. Writes a e (formals_words (map plain_formal z))) (sym is) (h then (k then l) then n)

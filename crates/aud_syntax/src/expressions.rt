@@ -12,22 +12,22 @@ use crate::tree::{
     Term,
 };
 use crate::words::{push_ident, push_literal, push_number, push_two_words, push_word};
-use std::alloc::AllocError;
+use crate::writing::Written;
 
 #[cycle(print)]
-pub fn push_in_parentheses(out: &mut Vec<u8>, inner: &Expression) -> Result<(), AllocError>
-    ensures { Writes result out.old out.new
+pub fn push_in_parentheses(out: &mut Written, inner: &Expression)
+    ensures { Writes out.old out.new
         (in_parentheses (expression_words (plain_expression inner.now))) }
 {
-    push_word(out, b"(")?;
-    push_expression(out, inner)?;
-    push_word(out, b")")
+    push_word(out, b"(");
+    push_expression(out, inner);
+    push_word(out, b")");
 }
 
 // RM 4.4
 #[cycle(print)]
-pub fn push_expression(out: &mut Vec<u8>, expression: &Expression) -> Result<(), AllocError>
-    ensures { Writes result out.old out.new (expression_words (plain_expression expression.now)) }
+pub fn push_expression(out: &mut Written, expression: &Expression)
+    ensures { Writes out.old out.new (expression_words (plain_expression expression.now)) }
 {
     match expression {
         Expression::Alone(relation) => push_relation(out, relation),
@@ -36,53 +36,44 @@ pub fn push_expression(out: &mut Vec<u8>, expression: &Expression) -> Result<(),
 }
 
 // A word and the expression behind it, if there is one.
-pub fn push_maybe(
-    out: &mut Vec<u8>,
-    spelling: &[u8],
-    expression: &Option<Expression>,
-) -> Result<(), AllocError>
-    ensures { Writes result out.old out.new
+pub fn push_maybe(out: &mut Written, spelling: &[u8], expression: &Option<Expression>)
+    ensures { Writes out.old out.new
         (maybe_words spelling.now (plain_maybe expression.now)) }
 {
     match expression {
-        None => Ok(()),
+        None => {}
         Some(expression) => {
-            push_word(out, spelling)?;
-            push_expression(out, expression)
+            push_word(out, spelling);
+            push_expression(out, expression);
         }
     }
 }
 
 // RM 4.4(2)
 #[cycle(print)]
-fn push_chain(out: &mut Vec<u8>, chain: &Chain) -> Result<(), AllocError>
-    ensures { Writes result out.old out.new (expression_words (plain_chain chain.now)) }
+fn push_chain(out: &mut Written, chain: &Chain)
+    ensures { Writes out.old out.new (expression_words (plain_chain chain.now)) }
 {
-    push_relation(out, &chain.first)?;
-    push_connected(out, chain.connective, &chain.second)?;
+    push_relation(out, &chain.first);
+    push_connected(out, chain.connective, &chain.second);
     for next in &chain.others {
-        push_connected(out, chain.connective, next)?;
+        push_connected(out, chain.connective, next);
     }
-    Ok(())
 }
 
 // A further relation behind the operator.
 #[cycle(print)]
-fn push_connected(
-    out: &mut Vec<u8>,
-    connective: Connective,
-    relation: &Relation,
-) -> Result<(), AllocError>
-    ensures { Writes result out.old out.new
+fn push_connected(out: &mut Written, connective: Connective, relation: &Relation)
+    ensures { Writes out.old out.new
         (connected_words connective (plain_relation relation.now)) }
 {
-    push_connective(out, connective)?;
-    push_relation(out, relation)
+    push_connective(out, connective);
+    push_relation(out, relation);
 }
 
 #[cycle(print)]
-fn push_relation(out: &mut Vec<u8>, relation: &Relation) -> Result<(), AllocError>
-    ensures { Writes result out.old out.new (relation_words (plain_relation relation.now)) }
+fn push_relation(out: &mut Written, relation: &Relation)
+    ensures { Writes out.old out.new (relation_words (plain_relation relation.now)) }
 {
     match relation {
         Relation::Unrelated(simple) => push_simple(out, simple),
@@ -91,75 +82,73 @@ fn push_relation(out: &mut Vec<u8>, relation: &Relation) -> Result<(), AllocErro
 }
 
 #[cycle(print)]
-fn push_comparison(out: &mut Vec<u8>, comparison: &Comparison) -> Result<(), AllocError>
-    ensures { Writes result out.old out.new (relation_words (plain_comparison comparison.now)) }
+fn push_comparison(out: &mut Written, comparison: &Comparison)
+    ensures { Writes out.old out.new (relation_words (plain_comparison comparison.now)) }
 {
-    push_simple(out, &comparison.left)?;
-    push_relational(out, comparison.operator)?;
-    push_simple(out, &comparison.right)
+    push_simple(out, &comparison.left);
+    push_relational(out, comparison.operator);
+    push_simple(out, &comparison.right);
 }
 
 #[cycle(print)]
-pub fn push_simple(out: &mut Vec<u8>, simple: &Simple) -> Result<(), AllocError>
-    ensures { Writes result out.old out.new (simple_words (plain_simple simple.now)) }
+pub fn push_simple(out: &mut Written, simple: &Simple)
+    ensures { Writes out.old out.new (simple_words (plain_simple simple.now)) }
 {
-    push_sign(out, simple.sign)?;
-    push_term(out, &simple.first)?;
+    push_sign(out, simple.sign);
+    push_term(out, &simple.first);
     for next in &simple.rest {
-        push_added(out, next)?;
+        push_added(out, next);
     }
-    Ok(())
 }
 
 #[cycle(print)]
-fn push_added(out: &mut Vec<u8>, added: &Added) -> Result<(), AllocError>
-    ensures { Writes result out.old out.new (added_words (plain_added added.now)) }
+fn push_added(out: &mut Written, added: &Added)
+    ensures { Writes out.old out.new (added_words (plain_added added.now)) }
 {
-    push_adding(out, added.operator)?;
-    push_term(out, &added.term)
+    push_adding(out, added.operator);
+    push_term(out, &added.term);
 }
 
 #[cycle(print)]
-fn push_term(out: &mut Vec<u8>, term: &Term) -> Result<(), AllocError>
-    ensures { Writes result out.old out.new (term_words (plain_term term.now)) }
+fn push_term(out: &mut Written, term: &Term)
+    ensures { Writes out.old out.new (term_words (plain_term term.now)) }
 {
-    push_factor(out, &term.first)?;
+    push_factor(out, &term.first);
     for next in &term.rest {
-        push_multiplied(out, next)?;
+        push_multiplied(out, next);
     }
-    Ok(())
 }
 
 #[cycle(print)]
-fn push_multiplied(out: &mut Vec<u8>, multiplied: &Multiplied) -> Result<(), AllocError>
-    ensures { Writes result out.old out.new (multiplied_words (plain_multiplied multiplied.now)) }
+fn push_multiplied(out: &mut Written, multiplied: &Multiplied)
+    ensures { Writes out.old out.new (multiplied_words (plain_multiplied multiplied.now)) }
 {
-    push_multiplying(out, multiplied.operator)?;
-    push_factor(out, &multiplied.factor)
+    push_multiplying(out, multiplied.operator);
+    push_factor(out, &multiplied.factor);
 }
 
 #[cycle(print)]
-fn push_factor(out: &mut Vec<u8>, factor: &Factor) -> Result<(), AllocError>
-    ensures { Writes result out.old out.new (factor_words (plain_factor factor.now)) }
+fn push_factor(out: &mut Written, factor: &Factor)
+    ensures { Writes out.old out.new (factor_words (plain_factor factor.now)) }
 {
-    push_operator(out, factor.operator)?;
-    push_primary(out, &factor.primary)
+    push_operator(out, factor.operator);
+    push_primary(out, &factor.primary);
 }
 
 #[cycle(print)]
-fn push_primary(out: &mut Vec<u8>, primary: &Primary) -> Result<(), AllocError>
-    ensures { Writes result out.old out.new (primary_words (plain_primary primary.now)) }
+fn push_primary(out: &mut Written, primary: &Primary)
+    ensures { Writes out.old out.new (primary_words (plain_primary primary.now)) }
 {
     match primary {
         Primary::Integer(number) => push_number(out, *number),
         Primary::Text(literal) => push_literal(out, literal),
         Primary::Name(name) => push_name(out, name),
         Primary::Attribute(prefix, designator, argument) => {
-            push_name(out, prefix)?;
-            push_word(out, b"'")?;
-            push_ident(out, designator)?;
+            push_name(out, prefix);
+            push_word(out, b"'");
+            push_ident(out, designator);
             match argument {
-                None => Ok(()),
+                None => {}
                 Some(argument) => push_in_parentheses(out, argument),
             }
         }
@@ -169,38 +158,37 @@ fn push_primary(out: &mut Vec<u8>, primary: &Primary) -> Result<(), AllocError>
 
 // RM 4.1
 #[cycle(print)]
-pub fn push_name(out: &mut Vec<u8>, name: &Name) -> Result<(), AllocError>
-    ensures { Writes result out.old out.new (name_words (plain_name name.now)) }
+pub fn push_name(out: &mut Written, name: &Name)
+    ensures { Writes out.old out.new (name_words (plain_name name.now)) }
 {
-    push_part(out, &name.first)?;
+    push_part(out, &name.first);
     for next in &name.others {
-        push_word(out, b".")?;
-        push_part(out, next)?;
+        push_word(out, b".");
+        push_part(out, next);
     }
-    Ok(())
 }
 
 // An identifier, and the arguments behind it, if there are any (RM 6.4).
 #[cycle(print)]
-fn push_part(out: &mut Vec<u8>, part: &NamePart) -> Result<(), AllocError>
-    ensures { Writes result out.old out.new (part_words (plain_part part.now)) }
+fn push_part(out: &mut Written, part: &NamePart)
+    ensures { Writes out.old out.new (part_words (plain_part part.now)) }
 {
-    push_ident(out, &part.ident)?;
+    push_ident(out, &part.ident);
     if part.args.is_empty() {
-        return Ok(());
+        return;
     }
     let mut before: &[u8] = b"(";
     for next in &part.args {
-        push_word(out, before)?;
-        push_expression(out, next)?;
+        push_word(out, before);
+        push_expression(out, next);
         before = b",";
     }
-    push_word(out, b")")
+    push_word(out, b")");
 }
 
 // RM 4.5.1
-fn push_connective(out: &mut Vec<u8>, connective: Connective) -> Result<(), AllocError>
-    ensures { Writes result out.old out.new (connective_words connective) }
+fn push_connective(out: &mut Written, connective: Connective)
+    ensures { Writes out.old out.new (connective_words connective) }
 {
     match connective {
         Connective::And => push_word(out, b"and"),
@@ -212,8 +200,8 @@ fn push_connective(out: &mut Vec<u8>, connective: Connective) -> Result<(), Allo
 }
 
 // RM 4.5.2
-fn push_relational(out: &mut Vec<u8>, operator: Relational) -> Result<(), AllocError>
-    ensures { Writes result out.old out.new (word (relational_spelling operator) ∷ []) }
+fn push_relational(out: &mut Written, operator: Relational)
+    ensures { Writes out.old out.new (word (relational_spelling operator) ∷ []) }
 {
     match operator {
         Relational::Equal => push_word(out, b"="),
@@ -226,11 +214,11 @@ fn push_relational(out: &mut Vec<u8>, operator: Relational) -> Result<(), AllocE
 }
 
 // RM 4.5.4
-fn push_sign(out: &mut Vec<u8>, sign: Option<Signed>) -> Result<(), AllocError>
-    ensures { Writes result out.old out.new (sign_words sign) }
+fn push_sign(out: &mut Written, sign: Option<Signed>)
+    ensures { Writes out.old out.new (sign_words sign) }
 {
     let Some(signed) = sign else {
-        return Ok(());
+        return;
     };
     match signed.sign {
         Sign::Plus => push_word(out, b"+"),
@@ -239,8 +227,8 @@ fn push_sign(out: &mut Vec<u8>, sign: Option<Signed>) -> Result<(), AllocError>
 }
 
 // RM 4.5.3
-fn push_adding(out: &mut Vec<u8>, operator: Adding) -> Result<(), AllocError>
-    ensures { Writes result out.old out.new (word (adding_spelling operator) ∷ []) }
+fn push_adding(out: &mut Written, operator: Adding)
+    ensures { Writes out.old out.new (word (adding_spelling operator) ∷ []) }
 {
     match operator {
         Adding::Plus => push_word(out, b"+"),
@@ -250,8 +238,8 @@ fn push_adding(out: &mut Vec<u8>, operator: Adding) -> Result<(), AllocError>
 }
 
 // RM 4.5.5
-fn push_multiplying(out: &mut Vec<u8>, operator: Multiplying) -> Result<(), AllocError>
-    ensures { Writes result out.old out.new (word (multiplying_spelling operator) ∷ []) }
+fn push_multiplying(out: &mut Written, operator: Multiplying)
+    ensures { Writes out.old out.new (word (multiplying_spelling operator) ∷ []) }
 {
     match operator {
         Multiplying::Times => push_word(out, b"*"),
@@ -262,11 +250,11 @@ fn push_multiplying(out: &mut Vec<u8>, operator: Multiplying) -> Result<(), Allo
 }
 
 // RM 4.5.6
-fn push_operator(out: &mut Vec<u8>, operator: Option<Operator>) -> Result<(), AllocError>
-    ensures { Writes result out.old out.new (operator_words operator) }
+fn push_operator(out: &mut Written, operator: Option<Operator>)
+    ensures { Writes out.old out.new (operator_words operator) }
 {
     let Some(operator) = operator else {
-        return Ok(());
+        return;
     };
     match operator.highest {
         Highest::Magnitude => push_word(out, b"abs"),

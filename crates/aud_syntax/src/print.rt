@@ -9,6 +9,7 @@ ghost use Rattle.aud_syntax.specs.Why.Printed.{clause_words, context_words, cont
 use crate::statements::{push_body, push_declarations};
 use crate::tree::{Context, Unit};
 use crate::words::{push_ident, push_last_word, push_two_words, push_word};
+use crate::writing::Written;
 use aud_text::text::Text;
 use std::alloc::{AllocError, Global};
 
@@ -25,35 +26,34 @@ use std::alloc::{AllocError, Global};
 pub fn print(alloc: Global, unit: &Unit) -> Result<Text, AllocError>
     ensures { IfOk result (λ text. text ≡ printed (plain_unit unit.now)) }
 {
-    let mut out = Vec::new(alloc);
-    push_unit(&mut out, unit)?;
-    Ok(Text::new(out))
+    let mut out = Written::new(alloc);
+    push_unit(&mut out, unit);
+    out.finish()
 }
 
 // RM 6.3, 10.1.1
-fn push_unit(out: &mut Vec<u8>, unit: &Unit) -> Result<(), AllocError>
-    ensures { Writes result out.old out.new (unit_words (plain_unit unit.now)) }
+fn push_unit(out: &mut Written, unit: &Unit)
+    ensures { Writes out.old out.new (unit_words (plain_unit unit.now)) }
 {
-    push_contexts(out, &unit.context)?;
-    push_word(out, b"procedure")?;
-    push_ident(out, &unit.name)?;
-    push_last_word(out, b"is")?;
-    push_declarations(out, &unit.declarations)?;
-    push_body(out, &unit.body)
+    push_contexts(out, &unit.context);
+    push_word(out, b"procedure");
+    push_ident(out, &unit.name);
+    push_last_word(out, b"is");
+    push_declarations(out, &unit.declarations);
+    push_body(out, &unit.body);
 }
 
-fn push_contexts(out: &mut Vec<u8>, clauses: &[Context]) -> Result<(), AllocError>
-    ensures { Writes result out.old out.new (contexts_words (map plain_context clauses.now)) }
+fn push_contexts(out: &mut Written, clauses: &[Context])
+    ensures { Writes out.old out.new (contexts_words (map plain_context clauses.now)) }
 {
     for next in clauses {
-        push_context(out, next)?;
+        push_context(out, next);
     }
-    Ok(())
 }
 
 // RM 8.4, 10.1.2
-fn push_context(out: &mut Vec<u8>, clause: &Context) -> Result<(), AllocError>
-    ensures { Writes result out.old out.new (context_words (plain_context clause.now)) }
+fn push_context(out: &mut Written, clause: &Context)
+    ensures { Writes out.old out.new (context_words (plain_context clause.now)) }
 {
     match clause {
         Context::With(_) => push_clause(out, b"with"),
@@ -62,10 +62,10 @@ fn push_context(out: &mut Vec<u8>, clause: &Context) -> Result<(), AllocError>
 }
 
 // A clause for Ada.Text_IO.
-fn push_clause(out: &mut Vec<u8>, spelling: &[u8]) -> Result<(), AllocError>
-    ensures { Writes result out.old out.new (clause_words spelling.now) }
+fn push_clause(out: &mut Written, spelling: &[u8])
+    ensures { Writes out.old out.new (clause_words spelling.now) }
 {
-    push_two_words(out, spelling, b"ADA")?;
-    push_two_words(out, b".", b"TEXT_IO")?;
-    push_last_word(out, b";")
+    push_two_words(out, spelling, b"ADA");
+    push_two_words(out, b".", b"TEXT_IO");
+    push_last_word(out, b";");
 }

@@ -170,6 +170,9 @@ pub(crate) fn has_move(state: &State, compiled: Compiled<'_>, task: usize) -> bo
     ensures { result ≡ has_some (moves_of (plain_program compiled.entry.program.now).plan
         compiled.entry.code.now task state.now) }
 {
+    if acts_simply(state, compiled.code, task) {
+        return true;
+    }
     if state.rests(task) {
         return false;
     }

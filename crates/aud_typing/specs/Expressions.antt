@@ -44,7 +44,7 @@ use Rattle.aud_names.specs.declared.rules.Base.{Base}
 use Rattle.aud_names.specs.declared.rules.Base.TheVariants.{Whole, Truth, Text}
 use Rattle.aud_names.specs.Names.{Place, visible, is_countable}
 use Rattle.aud_names.specs.Arrays.{length_between, array_at, task_array_at}
-use Rattle.aud_names.specs.Resolution.{Resolved, resolved, name_ident, part_ident, part_args, are_none, last_args, is_function}
+use Rattle.aud_names.specs.Resolution.{Resolved, resolved, name_ident, part_ident, part_args, are_none, last_args, is_function, value_faults}
 use Rattle.aud_names.specs.Rules.{base_of_subtype, wrong_kind_of_name, right_type, wrong_number_of_arguments, accept_or_count_in_place, function_call_out_of_place, number_too_large}
 
 -- an expression with its type, unknown where the expression is faulty
@@ -294,10 +294,6 @@ denoting_by r xs last = record {
 abbrev pub denoting : Name → Typed → Place → Denoting
 denoting n last place = denoting_by (resolved n place) (last_args n) last
 
--- a function has a value, but not there
-abbrev pub value_faults : Meaning → Pos → List Fault
-value_faults m at = if is_function m then function_call_out_of_place at else wrong_kind_of_name at
-
 -- what is read must be a variable, an element or a constant, or False or True (RM 4.1, 4.4)
 abbrev pub read_faults : Meaning → Pos → List Fault
 read_faults (Object o) at = []
@@ -475,11 +471,16 @@ attribute_of Callable m xs prefix designator argument place = asked (callable_of
 attribute_of Terminated m xs prefix designator argument place = asked (terminated_of m) prefix designator argument
 attribute_of Count m xs prefix designator argument place = count m xs prefix designator argument place
 
--- the designator must be an attribute's, and a function's call does not stand before it
+-- the designator must be an attribute's
 abbrev pub attribute_named : Option Attribute → Meaning → Args → Pos → Pos → Option (Pos × Typed) → Place → Checked
 attribute_named None m xs prefix designator argument place = faulty (wrong_kind_of_name designator)
-attribute_named (Some a) m xs prefix designator argument place =
-    if is_function m then faulty (function_call_out_of_place prefix) else attribute_of a m xs prefix designator argument place
+attribute_named (Some a) m xs prefix designator argument place = attribute_of a m xs prefix designator argument place
+
+-- a function's call does not stand before one
+abbrev pub attribute_of_name : Meaning → Args → Pos → Ident → Option (Pos × Typed) → Place → Checked
+attribute_of_name m xs prefix designator argument place =
+    if is_function m then faulty (function_call_out_of_place prefix)
+    else attribute_named (lookup (bytes_eq designator.name) attributes) m xs prefix designator.at argument place
 
 -- an element has none but Image (RM 4.10(40))
 abbrev pub element_attribute : Option Attribute → Typed → Pos → Pos → Option (Pos × Typed) → Checked
@@ -496,7 +497,7 @@ task_attribute (Some _) task prefix designator argument = faulty (wrong_kind_of_
 
 abbrev pub attribute_if : Entity → Args → Pos → Ident → Option (Pos × Typed) → Place → Checked
 attribute_if no_entity xs prefix designator argument place = fine unknown
-attribute_if (entity m) xs prefix designator argument place = attribute_named (lookup (bytes_eq designator.name) attributes) m xs prefix designator.at argument place
+attribute_if (entity m) xs prefix designator argument place = attribute_of_name m xs prefix designator argument place
 attribute_if (element_of a index s) xs prefix designator argument place = element_attribute (lookup (bytes_eq designator.name) attributes) (stored_at a index s) prefix designator.at argument
 attribute_if (task_of a index) xs prefix designator argument place = task_attribute (lookup (bytes_eq designator.name) attributes) (tree.indexed a index) prefix designator.at argument
 

@@ -398,12 +398,12 @@ fn meaning_attribute(
         (attribute_if (entity meaning) (plain_expressions args.now) prefix
         designator.now (plain_argument argument) scope.now).faults }
 {
+    if is_function(meaning) {
+        return out_of_place(prefix, argument, faults);
+    }
     match attribute_named(&designator.name) {
         None => wrong_kind(designator.at, argument, faults),
         Some(attribute) => {
-            if is_function(meaning) {
-                return out_of_place(prefix, argument, faults);
-            }
             let at = Places {
                 prefix,
                 designator: designator.at,

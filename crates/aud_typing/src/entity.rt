@@ -4,7 +4,7 @@ ghost use Rattle.std.specs.Prelude.{◌≡◌, IfOk};
 ghost use Rattle.aud_syntax.specs.Ties.View.{plain_name, plain_part, part_list, plain_expressions};
 ghost use Rattle.aud_typed.specs.Ties.View.{plain_integer};
 ghost use Rattle.aud_fault.specs.Least.{noted};
-ghost use Rattle.aud_typing.specs.Expressions.{no_entity, element_with, array_indexed, task_with, tasks_indexed, before_point, element_faults, prefix_faults, indexed, denoting, value_faults, read_faults, name_faults, stored_at, meaning_read, value_read};
+ghost use Rattle.aud_typing.specs.Expressions.{no_entity, element_with, array_indexed, task_with, tasks_indexed, before_point, element_faults, prefix_faults, indexed, denoting, read_faults, name_faults, stored_at, meaning_read, value_read};
 ghost use Rattle.aud_typing.specs.Ties.Typing.{plain_typed};
 ghost use Rattle.aud_typing.specs.Ties.Entities.{plain_entity};
 
@@ -14,10 +14,8 @@ use aud_fault::fault::Least;
 use aud_names::array::{array_at, task_array_at};
 use aud_names::behind::Made;
 use aud_names::names::{Array, Meaning, Scope, TaskArray};
-use aud_names::resolution::{is_function, last_args, resolve};
-use aud_names::rules::{
-    Base, function_call_out_of_place, wrong_kind_of_name, wrong_number_of_arguments,
-};
+use aud_names::resolution::{last_args, note_no_value, resolve};
+use aud_names::rules::{Base, wrong_kind_of_name, wrong_number_of_arguments};
 use aud_syntax::tree::{Expression, Name, NamePart};
 use aud_text::place::Pos;
 use aud_typed::program::{ArrayAt, BooleanExpression, IntegerExpression, Subtype};
@@ -263,17 +261,6 @@ pub fn name_denotes(
     }
 }
 
-/// Notes that a function's call is out of place, or that what is named is of the wrong kind.
-pub fn check_value(meaning: Meaning, at: Pos, faults: &mut Least)
-    ensures { faults.new ≡ noted faults.old (value_faults meaning at) }
-{
-    if is_function(meaning) {
-        function_call_out_of_place(at, faults);
-    } else {
-        wrong_kind_of_name(at, faults);
-    }
-}
-
 // Notes where what is read has no value (RM 4.1, 4.4).
 fn check_read(meaning: Meaning, at: Pos, faults: &mut Least)
     ensures { faults.new ≡ noted faults.old (read_faults meaning at) }
@@ -291,7 +278,7 @@ fn check_read(meaning: Meaning, at: Pos, faults: &mut Least)
         | Meaning::Entry(_)
         | Meaning::Protected(_)
         | Meaning::Barred => wrong_kind_of_name(at, faults),
-        Meaning::Operation(_) => check_value(meaning, at, faults),
+        Meaning::Operation(_) => note_no_value(meaning, at, faults),
     }
 }
 

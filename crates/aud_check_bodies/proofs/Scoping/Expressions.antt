@@ -237,7 +237,7 @@ module _ (known : Known) (scope : Scope) where
 
   attribute_named_scoped : (x : Option Attribute) (m : Meaning) (xs : plain.Args) (prefix designator : Pos) (a : Option (Pos × Typed)) (n : Place) → MeaningScoped known scope m → IfSome a (λ x. TypedScoped scope x.1) → TypedScoped scope (e.attribute_named x m xs prefix designator a n).typed
   attribute_named_scoped None m xs prefix designator a n h i = tt
-  attribute_named_scoped (Some x) m xs prefix designator a n h i = either (λ (y : e.Checked). TypedScoped scope y.typed) (resolution.is_function m) _ _ tt (attribute_of_scoped x m xs prefix designator a n h i)
+  attribute_named_scoped (Some x) m xs prefix designator a n h i = attribute_of_scoped x m xs prefix designator a n h i
 
   element_attribute_scoped : (x : Option Attribute) (t : Typed) (prefix designator : Pos) (a : Option (Pos × Typed)) → TypedScoped scope t → TypedScoped scope (e.element_attribute x t prefix designator a).typed
   element_attribute_scoped None t prefix designator a h = tt
@@ -252,7 +252,7 @@ module _ (known : Known) (scope : Scope) where
 
   attribute_scoped : (x : Entity) (xs : plain.Args) (prefix : Pos) (designator : Ident) (a : Option (Pos × Typed)) (n : Place) → EntityScoped known scope x → IfSome a (λ x. TypedScoped scope x.1) → TypedScoped scope (e.attribute_if x xs prefix designator a n).typed
   attribute_scoped no_entity xs prefix designator a n h i = tt
-  attribute_scoped (entity m) xs prefix designator a n h i = attribute_named_scoped (lookup (bytes_eq designator.name) e.attributes) m xs prefix designator.at a n h i
+  attribute_scoped (entity m) xs prefix designator a n h i = either (λ (y : e.Checked). TypedScoped scope y.typed) (resolution.is_function m) _ _ tt (attribute_named_scoped (lookup (bytes_eq designator.name) e.attributes) m xs prefix designator.at a n h i)
   attribute_scoped (element_of v index t) xs prefix designator a n h i = element_attribute_scoped (lookup (bytes_eq designator.name) e.attributes) (e.stored_at v index t) prefix designator.at a (element_scoped v index t h)
   attribute_scoped (task_of v index) xs prefix designator a n h i = task_attribute_scoped (lookup (bytes_eq designator.name) e.attributes) (tree.indexed v index) prefix designator.at a h
 

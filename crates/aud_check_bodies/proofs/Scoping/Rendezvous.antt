@@ -1,5 +1,6 @@
 -- Accept statements and selects without faults use what is elaborated, or there.
-use Rattle.std.proofs.Common.{◌≡◌, ℕ, List, [], ◌∷◌, ◌++◌, length, Option, Some, None, arith, refl, sym, ◌∙◌, ap, subst}
+use Rattle.std.specs.Prelude.{if◌then◌else◌}
+use Rattle.std.proofs.Common.{◌≡◌, ℕ, Bool, true, false, List, [], ◌∷◌, ◌++◌, length, Option, Some, None, arith, refl, sym, ◌∙◌, ap, subst}
 use Rattle.aud_text.specs.declared.place.Pos.{Pos}
 use Rattle.aud_syntax.specs.declared.tree.Ident.{Ident}
 use Rattle.aud_syntax.specs.Plain as plain
@@ -11,6 +12,7 @@ use Rattle.aud_names.specs.declared.names.Meaning.{Meaning}
 use Rattle.aud_names.specs.declared.names.Meaning.TheVariants as meaning
 use Rattle.aud_names.specs.Names as names
 use Rattle.aud_names.specs.Names.{Region, Place}
+use Rattle.aud_names.specs.Resolution.{is_function}
 use Rattle.aud_names.specs.Rules as rules
 use Rattle.aud_check_bodies.specs.Tables.{Tables, with_region}
 use Rattle.aud_check_bodies.specs.Accepts as accepts
@@ -40,11 +42,16 @@ module _ (plan : Plan) (entries : List Entry) where
       let one = f fits p r (both_none (s.checked_accept x around n t).faults [] q).0 in
       ((one.0, refl), one.1)
 
+  -- what has no value is a fault
+  no_value : (is_function : Bool) (at : Pos) → (if is_function then rules.function_call_out_of_place at else rules.wrong_kind_of_name at) ≡ [] → true ≡ false
+  no_value true at e = cc
+  no_value false at e = cc
+
   -- an accept without faults is of an entry
   accepted_there : (m : Option Meaning) (at : Pos) (given : List NamedParameter) (within : List ℕ) (n : Place) (t : Tables) (scope : Scope) → accepts.accepted_faults m at given within n t ≡ [] → VisibleScoped (seen plan entries t) scope m → IsEntry (seen plan entries t) (accepts.number_of (accepts.entry_meant m))
   accepted_there None at given within n t scope q h = cc
   accepted_there (Some (meaning.Entry x)) at given within n t scope q h = h.0
-  accepted_there (Some _) at given within n t scope q h = cc
+  accepted_there (Some m) at given within n t scope q h = let no = no_value (is_function m) at q in cc
 
   pub accept_fine : (at : Pos) (i : Ident) (fs : List plain.Formal) (x : plain.Doing) (around : Around) (n : Place) (t : Tables) (scope : Scope) → ((r : Region) (within : Around) → DoingFine plan entries x i r within n t scope) → AcceptFine plan entries (plain.accept at i fs x) around n t scope
   unfolding AcceptFine DoingFine

@@ -3,15 +3,22 @@
 use crate::tests::loaded;
 use aud_code::fused::Fused;
 use aud_code::sound_code::SoundCode;
+use aud_expr::operands::Operands;
 use aud_gen::generate;
+use aud_machine::machine::opened;
+use aud_tasks::compiled::Compiled;
+use aud_tasks::run::run;
+use aud_text::limits::STANDARD;
+use aud_typed::program::Program;
+use std::alloc::{AllocError, Global};
 use std::process::Abort;
 use std::test::Fail;
 
 const LOOPS: &[u8] =
-    b"procedure M is X, Y : Integer := 0; P : Boolean; begin while X < 9 loop X := X + 1; X := X - 1; Y := X * 2; X := X + Y; Y := Y - X; X := X * Y; exit when X = Y; P := X > Y and then P; if P then Y := (X + 1) * 2; else null; end if; Put (X'Image); end loop; end M;\n";
+    b"procedure M is X, Y : Integer := 0; P, Q : Boolean; begin while X < 9 loop X := X + 1; X := X - 1; Y := X * 2; X := X + Y; Y := Y - X; X := X * Y; exit when X = Y; P := X > Y and then P; if P then Y := (X + 1) * 2; else null; end if; X := 7; Y := X; P := True; Q := P; P := not Q; exit when not P; exit when X + Y * 2 > 9; Put (X'Image); end loop; end M;\n";
 
-const STEPS_AT_ONCE: [&str; 20] = [
-    // the declarations of X and Y, and of P
+const STEPS_AT_ONCE: [&str; 27] = [
+    // the declarations of X and Y, and of P and Q
     "apart",
     "apart",
     // `while`, and the statements of its loop
@@ -24,9 +31,16 @@ const STEPS_AT_ONCE: [&str; 20] = [
     "other operator on two variables",
     "test of two variables",
     "target",
-    "truth value of a variable",
+    "test of a truth value",
     "target and variable",
     "null",
+    "assignment of a number",
+    "assignment of a variable",
+    "assignment of a literal truth value",
+    "assignment of a truth value",
+    "assignment of a negation",
+    "test of a negation",
+    "two variables",
     // the text that is put
     "apart",
     // where handlers would be, and the end
@@ -44,6 +58,7 @@ fn word(fused: &Fused) -> &'static str {
         Fused::Apart => "apart",
         Fused::Push(_) => "number",
         Fused::Load(_) => "variable",
+        Fused::LoadBoth(_, _) => "two variables",
         Fused::OnOne(_) => "operator on one",
         Fused::OnTwo(_) => "operator on two",
         Fused::OnCell(_, _) => "operator on the newest and a variable",
@@ -82,6 +97,13 @@ fn word(fused: &Fused) -> &'static str {
         Fused::AssignSumOfCells { .. } => "sum of two variables",
         Fused::AssignDifferenceOfCells { .. } => "difference of two variables",
         Fused::AssignCells { .. } => "other operator on two variables",
+        Fused::SetInteger { .. } => "assignment of a number",
+        Fused::CopyInteger { .. } => "assignment of a variable",
+        Fused::SetTruth { .. } => "assignment of a literal truth value",
+        Fused::CopyTruth { .. } => "assignment of a truth value",
+        Fused::CopyNegated { .. } => "assignment of a negation",
+        Fused::TestTruth { .. } => "test of a truth value",
+        Fused::TestNegated { .. } => "test of a negation",
         Fused::TestNumber { .. } => "test of a variable and a number",
         Fused::TestCells { .. } => "test of two variables",
     }
@@ -100,58 +122,102 @@ fn begins_as_told(rt: &impl Abort, code: &SoundCode, wanted: &[&str]) {
     assert!(rt; count == wanted.len());
 }
 
-// A program with loops, and how many steps of its code are done at once.
+// A program with loops, and how many steps of its code are fused. After the first steps, so many, `run_fast` takes
+// `at_once` of this task's.
 struct Shape {
     what: &'static str,
     text: &'static [u8],
-    at_once: usize,
+    fused: usize,
+    before: u32,
+    task: usize,
+    at_once: u32,
 }
 
 // The last of these steps is that of the null statement of a body for a number that none has.
-const SHAPES: [Shape; 8] = [
+const SHAPES: [Shape; 10] = [
     Shape {
         what: "a loop in main",
         text: b"procedure M is X : Integer := 0; begin while X < 9 loop X := X + 1; end loop; end M;\n",
-        at_once: 3,
+        fused: 3,
+        before: 1,
+        task: 0,
+        at_once: 19,
     },
     Shape {
         what: "a loop in a task, and a null statement",
         text: b"procedure M is task T; task body T is X : Integer := 0; begin while X < 9 loop X := X + 1; end loop; end T; begin null; end M;\n",
-        at_once: 4,
+        fused: 4,
+        before: 4,
+        task: 1,
+        at_once: 19,
     },
     Shape {
         what: "a loop in a procedure",
         text: b"procedure M is procedure P is X : Integer := 0; begin while X < 9 loop X := X + 1; end loop; end P; begin P; end M;\n",
-        at_once: 3,
+        fused: 3,
+        before: 2,
+        task: 0,
+        at_once: 19,
     },
     Shape {
         what: "a loop in a procedure, over main's variable",
         text: b"procedure M is X : Integer := 0; procedure P is begin while X < 9 loop X := X + 1; end loop; end P; begin P; end M;\n",
-        at_once: 3,
+        fused: 3,
+        before: 2,
+        task: 0,
+        at_once: 19,
     },
     Shape {
         what: "a loop in a block",
         text: b"procedure M is begin declare X : Integer := 0; begin while X < 9 loop X := X + 1; end loop; end; end M;\n",
-        at_once: 3,
+        fused: 3,
+        before: 2,
+        task: 0,
+        at_once: 19,
     },
     Shape {
         what: "a sum of a parameter's values",
         text: b"procedure M is S : Integer := 0; begin for I in 1 .. 9 loop S := I - S; end loop; end M;\n",
-        at_once: 3,
+        fused: 3,
+        before: 2,
+        task: 0,
+        at_once: 17,
     },
     Shape {
         what: "loops in one another, over an array",
         text: b"procedure M is S : Integer := 0; A : array (0 .. 9) of Integer; begin for J in 1 .. 3 loop for I in reverse 0 .. 9 loop A (I) := A (9 - I) + J; S := S + A (I); end loop; end loop; end M;\n",
-        at_once: 5,
+        fused: 5,
+        before: 4,
+        task: 0,
+        at_once: 29,
     },
     Shape {
         what: "short circuits",
         text: b"procedure M is X : Integer := 0; P, Q : Boolean := False; begin while X < 9 loop X := X + 1; P := X > 5 and then X mod 2 = 0; if P or else Q then Q := not P; end if; end loop; end M;\n",
-        at_once: 6,
+        fused: 6,
+        before: 3,
+        task: 0,
+        at_once: 39,
+    },
+    Shape {
+        what: "a loop in a procedure with a variable, in a main procedure with more of them",
+        text: b"procedure M is A, B, C : Integer := 0; procedure P is S : Integer := 0; begin for I in 1 .. 9 loop S := S + I; A := S; end loop; end P; begin P; end M;\n",
+        fused: 4,
+        before: 6,
+        task: 0,
+        at_once: 26,
+    },
+    Shape {
+        what: "steps of one value",
+        text: b"procedure M is X, Y : Integer := 0; P, Q : Boolean := True; begin while X < 9 loop X := X + 1; Y := 7; Y := X; P := True; Q := P; Q := not P; if P then null; end if; exit when P = Q; exit when Q; exit when not P; exit when X + Y * 2 > 99; end loop; end M;\n",
+        fused: 14,
+        before: 4,
+        task: 0,
+        at_once: 118,
     },
 ];
 
-fn steps_at_once(code: &SoundCode) -> usize {
+fn fused_steps(code: &SoundCode) -> usize {
     let mut count = 0usize;
     for place in 0..code.len() {
         let is_apart = matches!(code.fused(place), None | Some(Fused::Apart));
@@ -175,7 +241,39 @@ fn fuses_steps_of_every_shape(rt: HostRuntime) -> Result<(), Fail> {
     for shape in &SHAPES {
         let program = loaded(rt.alloc(), shape.text)?;
         let code = generate(rt.alloc(), &program)?;
-        assert!(rt; steps_at_once(&code) == shape.at_once, "{}", shape.what);
+        assert!(rt; fused_steps(&code) == shape.fused, "{}", shape.what);
+    }
+    Ok(())
+}
+
+fn does_at_once(
+    rt: &impl Abort,
+    alloc: Global,
+    program: &Program,
+    code: &SoundCode,
+    shape: &Shape,
+) -> Result<(), AllocError> {
+    let mut state = opened(alloc, code, program, STANDARD)?;
+    let compiled = Compiled {
+        code,
+        program,
+        limits: STANDARD,
+    };
+    let mut operands = Operands::new(alloc);
+    assert!(rt; state.steps() <= 1_000 && shape.before <= 1_000);
+    let _ = run(&mut state, alloc, compiled, &mut operands, shape.before)?;
+    assert!(rt; state.steps() <= 1_000 && shape.task < state.len());
+    let taken = state.run_fast(code, shape.task, 1_000);
+    assert!(rt; taken.steps == shape.at_once, "{}", shape.what);
+    Ok(())
+}
+
+#[test]
+fn does_steps_of_every_shape_at_once(rt: HostRuntime) -> Result<(), Fail> {
+    for shape in &SHAPES {
+        let program = loaded(rt.alloc(), shape.text)?;
+        let code = generate(rt.alloc(), &program)?;
+        does_at_once(&rt, rt.alloc(), program.program(), &code, shape)?;
     }
     Ok(())
 }

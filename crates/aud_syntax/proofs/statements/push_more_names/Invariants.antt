@@ -1,8 +1,8 @@
-use Rattle.std.proofs.Common.{◌≡◌, ◌++◌, drop}
-use Rattle.aud_lex.specs.Why.Spaced.{spaced}
+use Rattle.std.proofs.Common.{drop}
 use Rattle.aud_syntax.specs.Ties.View.{plain_names}
 use Rattle.aud_syntax.specs.Why.Printed.{more_names_words}
+use Rattle.aud_syntax.proofs.Written.{Remains}
 use Rattle.aud_syntax.proofs.statements.push_more_names.Given as goal
 
 abbrev pub invariant-loop-next : goal.invariant-loop-next
-invariant-loop-next l = l.out.items ++ spaced (more_names_words (plain_names (drop l.next-index l.others))) ≡ l.fn.out.items ++ spaced (more_names_words (plain_names l.fn.others))
+invariant-loop-next l = Remains l.fn.out l.out (more_names_words (plain_names l.fn.others)) (more_names_words (plain_names (drop l.next-index l.others)))

@@ -1,11 +1,5 @@
-use Rattle.std.proofs.Common.{◌++◌, ◌∷◌, []}
-use Rattle.std.specs.Prelude.{codes}
-use Rattle.aud_lex.specs.Why.Spaced.{word, last_word}
-use Rattle.aud_syntax.specs.Why.Printed.{real_word}
-use Rattle.aud_syntax.proofs.Written.{all_written}
+use Rattle.aud_syntax.proofs.Written.{◌then◌}
 use Rattle.aud_syntax.proofs.statements.push_seconds.Goals as goal
 
 pub returns : goal.returns
-returns c =
-    all_written c.push_last_word.result c.args.out.now.items c.push_word.new.out.items c.push_last_word.new.out.items (word (codes "delay") ∷ []) (real_word c.args.seconds ∷ [] ++ (last_word (codes ";") ∷ [])) c.in_ok-push_word.ensures
-    (all_written c.push_last_word.result c.push_word.new.out.items c.push_real.new.out.items c.push_last_word.new.out.items (real_word c.args.seconds ∷ []) (last_word (codes ";") ∷ []) c.in_ok-push_real.ensures c.push_last_word.ensures)
+returns c = c.push_word.ensures then c.push_real.ensures then c.push_last_word.ensures

@@ -95,3 +95,8 @@ pub returns-then-rests : goal.returns-then-rests
 returns-then-rests c =
     let plan = (plain_program c.args.compiled.program.now).plan in
     sym (ap has_some (rests_none plan c.args.compiled.code.now c.args.task c.args.state.now (c.rests.ensures c.if-rests.true)))
+
+pub returns-then-acts_simply : goal.returns-then-acts_simply
+returns-then-acts_simply c =
+    let plan = (plain_program c.args.compiled.program.now).plan in
+    sym (ap has_some (c.acts_simply.ensures.alone c.if-acts_simply.true plan))

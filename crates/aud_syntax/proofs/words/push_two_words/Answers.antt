@@ -1,0 +1,5 @@
+use Rattle.aud_syntax.proofs.Written.{◌then◌}
+use Rattle.aud_syntax.proofs.words.push_two_words.Goals as goal
+
+pub returns : goal.returns
+returns c = c.push_word.ensures then c.push_word-2.ensures
