@@ -164,7 +164,7 @@ module _ (code : Flat) (sound : IsSound code) where
       out_of_kept (end_at code place).last place (end_place (end_at code out).last out (out_place s.place is.place)) s is
 
   module _ (plan : Plan) where
-    moved_kept : (o : Moved) (s : Spot) → IsSpot lines s → IsSpot lines (moved (flat_controls plan code) s o)
+    pub moved_kept : (o : Moved) (s : Spot) → IsSpot lines s → IsSpot lines (moved (flat_controls plan code) s o)
     moved_kept here s is = is
     moved_kept (takes_part n o) s is = takes_kept n _ (moved_kept o s is)
     moved_kept (does_accept n o) s is = accepts_kept n _ (moved_kept o s is)

@@ -8,4 +8,5 @@ pub mod Numbers
 pub mod FastSteps
 pub mod FastRuns
 pub mod Beside
+pub mod Alone
 pub mod Ahead

@@ -16,9 +16,10 @@ ghost use Rattle.aud_code.specs.Instruction.{Reached};
 ghost use Rattle.aud_code.specs.Places.{loops_of, Spot};
 ghost use Rattle.aud_code.specs.Sound.{counts_of, LastFine};
 ghost use Rattle.aud_code.specs.View.{exit_of, plain_end, plain_last};
+ghost use Rattle.aud_sequential.specs.Parked as part;
 ghost use Rattle.aud_sequential.specs.Parked.{numbers_from};
 ghost use Rattle.aud_sequential.specs.Shown.{plans_of, unit_in};
-ghost use Rattle.aud_sequential.specs.Steps.{IsOfOne};
+ghost use Rattle.aud_sequential.specs.Steps.{DoesAsked, IsOfOne};
 ghost use Rattle.aud_state.specs.View.{plain_task};
 
 use crate::state::State;
@@ -31,8 +32,8 @@ use aud_typed::program::Unit;
 use std::alloc::{AllocError, Global};
 
 impl Task {
-    // What the ending of a step does that concerns the task alone.
-    fn step_alone(
+    /// What the ending of a step does that concerns the task alone.
+    pub(crate) fn step_alone(
         &mut self,
         progress: &mut Progress,
         end: &EndLine,
@@ -40,17 +41,15 @@ impl Task {
         units: &[Unit],
         operands: &mut Operands,
     ) -> Result<(), AllocError>
-        requires there { plain_end end.now ≡
-            end_at code.now (plain_task self.old).control.place }
+        requires there { plain_end end.now ≡ end_at code.now self.old.parked.control.place }
         requires alone { IsOfOne end.now.last }
         requires fine { LastFine (plain_last end.now.last) (counts_of operands.old) }
-        ensures does { OnOk result ((s : Scene) → (plan : Plan) → plan.units ≡ plans_of units.now →
-            (barrier : ℕ → Sight → Result Bool RaiseOf) → (shared : Shared) →
-            acting (plain_task self.new) (shared_by shared progress.new) ≡
-            acts (going code.now) plan barrier (asked_last (plain_last end.now.last)
-            (loops_of (exit_of end.now.last)) end.now.at s (Reached operands.old))
-            (acting (plain_task self.old) (shared_by shared progress.old))) }
+        ensures does { OnOk result ((s : Scene) → DoesAsked (plans_of units.now) code.now
+            (part.acting self.old.parked progress.old) (part.acting self.new.parked progress.new)
+            (asked_last (plain_last end.now.last) (loops_of (exit_of end.now.last)) end.now.at s
+            (Reached operands.old))) }
         ensures kept { OnOk result (rest_of progress.new ≡ rest_of progress.old) }
+        ensures same { OnOk result (self.new ≡ record self.old { parked = self.new.parked }) }
     {
         progress.exchange(&mut self.parked);
         progress.step_alone(end, code, units, operands)?;

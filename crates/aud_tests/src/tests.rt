@@ -3,6 +3,7 @@
 // that fail; desks with workers, their connections and the listening program; the program's status, and what it says of
 // it. The tests stand here for all crates, since a crate that has tests of its own is proved twice.
 
+mod ahead;
 mod answers;
 mod benches;
 mod choosing;

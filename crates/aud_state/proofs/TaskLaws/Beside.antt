@@ -1,8 +1,9 @@
 -- A task is changed beside what all share.
-use Rattle.std.proofs.Common.{◌≡◌, false, ◌<◌, ◌≤◌, ℕ, zero, suc, List, [], ◌∷◌, length, map, get_or, set, refl, ap, sym, ◌∙◌, arith, slice_get, Some, None}
+use Rattle.std.proofs.Common.{◌≡◌, false, ◌<◌, ◌≤◌, ℕ, zero, suc, List, [], ◌∷◌, length, map, get_or, set, refl, ap, sym, subst, ◌∙◌, arith, slice_get, Some, None}
 use Rattle.std.specs.Prelude.{Result, Bool}
 use Rattle.aud_text.specs.declared.raise.Raise.{Raise}
-use Rattle.aud_typed.specs.Tree.{Plan}
+use Rattle.aud_typed.specs.Tree.{Plan, UnitPlan}
+use Rattle.aud_meaning.specs.Control.{Asked}
 use Rattle.aud_meaning.specs.Evaluation.{Sight}
 use Rattle.aud_meaning.specs.Orders.{Orders}
 use Rattle.aud_meaning.specs.Tasks as effect
@@ -11,8 +12,10 @@ use Rattle.aud_meaning.specs.Configuration.{All, Acting, Own, Shared, Opened, Pu
 use Rattle.aud_meaning.specs.Parts.{alone, alone_by, put_back}
 use Rattle.aud_meaning.specs.Parts.{acting as beside}
 use Rattle.aud_meaning.specs.Ties.Part.{Part, Rest, rest_of, shared_by, within}
+use Rattle.aud_code.specs.Flat.{Flat}
 use Rattle.aud_code.specs.Places.{Spot}
 use Rattle.aud_sequential.specs.Parked.{Parked, acting, parked}
+use Rattle.aud_sequential.specs.Steps.{DoesAsked}
 use Rattle.aud_state.specs.declared.task.Task.{Task}
 use Rattle.aud_state.specs.declared.object.Object.{Object}
 use Rattle.aud_state.specs.View.{Kept, plain_object, plain_own, plain_task, all_of}
@@ -53,6 +56,11 @@ between f t y z p o q r in_ does out is s =
     ∙ ap (λ w. beside (plain_task (record t { parked = parked q })) (shared_by s w)) out
     ∙ does (plain_own t) s
     ∙ ap (λ w. f (within (plain_own t) s w)) in_
+
+pub between_asked : (units : List UnitPlan) (code : Flat) (a : Asked) (t y z : Parked) (p o q r : Part Spot) → o ≡ acting t p → DoesAsked units code o q a → r ≡ acting y q → z ≡ parked q → DoesAsked units code (acting t p) (acting z r) a
+between_asked units code a t y z p o q r in_ does out is =
+    let back : q ≡ acting z r = sym (ap (λ w. acting w r) is ∙ ap (acting (parked q)) out) in
+    subst (λ w. DoesAsked units code w (acting z r) a) in_ (subst (λ w. DoesAsked units code o w a) back does)
 
 pub rest_kept : (t y : Parked) (p o q r : Part Spot) → o ≡ acting t p → rest_of q ≡ rest_of o → r ≡ acting y q → rest_of r ≡ rest_of p
 rest_kept t y p o q r in_ kept out = ap (λ (x : Part Spot). rest_of x) out ∙ kept ∙ ap (λ (x : Part Spot). rest_of x) in_

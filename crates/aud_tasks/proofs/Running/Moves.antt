@@ -1,6 +1,6 @@
 -- Moves that stay, where what comes next of each task is of the same sort. Those of other tasks at a select or a call, or that service
 -- an object, may differ, since guards, names and barriers depend on variables; then they have some moves all the same.
-use Rattle.std.proofs.Common.{◌≡◌, ◌+◌, ℕ, zero, suc, List, [], ◌∷◌, ◌++◌, drop, Option, Some, None, Bool, true, false, not, ◌&&◌, ◌||◌, if◌then◌else◌, map, refl, ap, sym, subst, ◌∙◌, arith}
+use Rattle.std.proofs.Common.{◌≡◌, ◌+◌, ◌⊎◌, inl, inr, ℕ, zero, suc, List, [], ◌∷◌, ◌++◌, drop, Option, Some, None, Bool, true, false, not, ◌&&◌, ◌||◌, if◌then◌else◌, map, refl, ap, sym, subst, ◌∙◌, arith}
 use Rattle.std.proofs.lemmas.Option.{same_Some}
 use Rattle.std.specs.Prelude.{Result, Ok, Err, IfSome, filter, nat_le, slice_get, slice_index_or}
 use Rattle.aud_text.specs.declared.raise.Raise.{Raise}
@@ -12,7 +12,8 @@ use Rattle.aud_meaning.specs.declared.state.Owner.{Owner}
 use Rattle.aud_meaning.specs.declared.state.Owner.TheVariants as owner
 use Rattle.aud_meaning.specs.declared.state.Serving.{Serving}
 use Rattle.aud_meaning.specs.declared.state.Action.{Action}
-use Rattle.aud_meaning.specs.Configuration.{Call, Frame, Object, Own, TaskAt, All}
+use Rattle.aud_meaning.specs.Configuration.{Call, Frame, Object, Opened, Own, Shared, TaskAt, All}
+use Rattle.aud_meaning.specs.Effects.{is_loop, outermost, out_of_loops_by}
 use Rattle.aud_meaning.specs.Evaluation.{Sight}
 use Rattle.aud_meaning.specs.Control.{Seen, Coming, simply, ending, selecting, calling, starting}
 use Rattle.aud_meaning.specs.Parts.{nobody, in_the_way, is_idle, object_of, own_of, call_of, is_queued, owns, any, depends, may_terminate, Closable, body_master, in_action, open_alternatives}
@@ -47,17 +48,33 @@ alike_self Free Other (starting object reading) = stays (refl, refl)
 abbrev pub ServesSame : (Served Other : Type 0) → Option Serving → Type 0
 ServesSame Served Other serving = SameOr Other (IfSome serving (λ s. Served))
 
--- The same task, elsewhere in its code. Free is what makes objects idle, where the task's status lets it begin an action.
-pub record AlikeTask (Free : Status → Type 0) (Served Other : Type 0) (t u : TaskAt Seen) : Type 0 where
-  pub own : t.own ≡ u.own
+-- what is left of a task's own besides what is pending and its open frames
+abbrev pub bare : Own → Own
+bare own = record own { pending = None; display = []; opened = [] }
+
+abbrev pub bares : {C : Type 0} → List (TaskAt C) → List Own
+bares [] = []
+bares (t ∷ ts) = bare t.own ∷ bares ts
+
+-- it runs, and goes on simply: no question of its open frames
+abbrev pub GoesSimply : Status → Coming → Type 0
+GoesSimply Running (simply w) = Unit {0}
+GoesSimply status next = ⊥
+
+-- The same task, elsewhere in its code. Free is what makes objects idle, where the task's status lets it begin an action. One that has
+-- moved may have other frames open, and goes on simply.
+pub record AlikeTask (Free : Status → Type 0) (Served Other Moved : Type 0) (t u : TaskAt Seen) : Type 0 where
+  pub own : bare t.own ≡ bare u.own
+  pub opened : (t.own.opened ≡ u.own.opened) ⊎ Moved
+  pub moved : Moved → GoesSimply t.own.status t.control.coming
   pub coming : AreAlike (Free t.own.status) Other t.control.coming u.control.coming
   pub serving : ServesSame Served Other t.own.serving
 
 -- from a number on
-abbrev pub AlikeTasks : (Status → Type 0) → (Served : Type 0) → (ℕ → Type 0) → ℕ → List (TaskAt Seen) → List (TaskAt Seen) → Type 0
-AlikeTasks Free Served Other n [] [] = Unit {0}
-AlikeTasks Free Served Other n (t ∷ ts) (u ∷ us) = AlikeTask Free Served (Other n) t u × AlikeTasks Free Served Other (suc n) ts us
-AlikeTasks Free Served Other n ts us = ⊥
+abbrev pub AlikeTasks : (Status → Type 0) → (Served : Type 0) → (Other Moved : ℕ → Type 0) → ℕ → List (TaskAt Seen) → List (TaskAt Seen) → Type 0
+AlikeTasks Free Served Other Moved n [] [] = Unit {0}
+AlikeTasks Free Served Other Moved n (t ∷ ts) (u ∷ us) = AlikeTask Free Served (Other n) (Moved n) t u × AlikeTasks Free Served Other Moved (suc n) ts us
+AlikeTasks Free Served Other Moved n ts us = ⊥
 
 -- Moves that are the same, or of which both have some.
 abbrev pub HasSome : List Move → Type 0
@@ -91,19 +108,67 @@ head_of x y xs ys h = same_Some x y (ap (λ l. slice_get l 0) h)
 tail_of : (x y : Move) (xs ys : List Move) → x ∷ xs ≡ y ∷ ys → xs ≡ ys
 tail_of x y xs ys h = ap (drop 1) h
 
-pub owns_alike : (Free : Status → Type 0) (Served : Type 0) (Other : ℕ → Type 0) (n : ℕ) (ts us : List (TaskAt Seen)) → AlikeTasks Free Served Other n ts us → owns ts ≡ owns us
-owns_alike Free Served Other n [] [] h = refl
-owns_alike Free Served Other n [] (u ∷ us) h = absurd h
-owns_alike Free Served Other n (t ∷ ts) [] h = absurd h
-owns_alike Free Served Other n (t ∷ ts) (u ∷ us) h = ap (λ o. o ∷ owns ts) h.0.own ∙ ap (λ os. u.own ∷ os) (owns_alike Free Served Other (suc n) ts us h.1)
+pub bares_alike : (Free : Status → Type 0) (Served : Type 0) (Other Moved : ℕ → Type 0) (n : ℕ) (ts us : List (TaskAt Seen)) → AlikeTasks Free Served Other Moved n ts us → bares ts ≡ bares us
+bares_alike Free Served Other Moved n [] [] h = refl
+bares_alike Free Served Other Moved n [] (u ∷ us) h = absurd h
+bares_alike Free Served Other Moved n (t ∷ ts) [] h = absurd h
+bares_alike Free Served Other Moved n (t ∷ ts) (u ∷ us) h = ap (λ o. o ∷ bares ts) h.0.own ∙ ap (λ os. bare u.own ∷ os) (bares_alike Free Served Other Moved (suc n) ts us h.1)
 
-any_owns : (f : Own → Bool) (ts : List (TaskAt Seen)) → any (λ (t : TaskAt Seen). f t.own) ts ≡ any f (owns ts)
-any_owns f [] = refl
-any_owns f (t ∷ ts) = ap (λ b. f t.own || b) (any_owns f ts)
+-- the open frames of the task of a number
+opened_at : ℕ → List (TaskAt Seen) → List Opened
+opened_at k ts = (slice_index_or (owns ts) k nobody).opened
 
--- with other frames and other choices, after other steps
-abbrev pub elsewhere : List (TaskAt Seen) → List Frame → List ℕ → ℕ → All Seen → All Seen
-elsewhere us frames choices steps d = record d { tasks = us; shared = record d.shared { frames = frames }; choices = choices; steps = steps }
+pub opened_alike : (Free : Status → Type 0) (Served : Type 0) (Other Moved : ℕ → Type 0) (n i k : ℕ) (ts us : List (TaskAt Seen)) → n + i ≡ k → AlikeTasks Free Served Other Moved n ts us → (opened_at i ts ≡ opened_at i us) ⊎ Moved k
+opened_alike Free Served Other Moved n i k [] [] is h = inl refl
+opened_alike Free Served Other Moved n i k [] (u ∷ us) is h = absurd h
+opened_alike Free Served Other Moved n i k (t ∷ ts) [] is h = absurd h
+opened_alike Free Served Other Moved n zero k (t ∷ ts) (u ∷ us) is h = let same : n ≡ k = omega (arith, is) in subst (λ m. (t.own.opened ≡ u.own.opened) ⊎ Moved m) same h.0.opened
+opened_alike Free Served Other Moved n (suc i) k (t ∷ ts) (u ∷ us) is h = opened_alike Free Served Other Moved (suc n) i k ts us (omega (arith, is)) h.1
+
+bare_at : (k : ℕ) (ts : List (TaskAt Seen)) → bare (slice_index_or (owns ts) k nobody) ≡ slice_index_or (bares ts) k nobody
+bare_at k [] = refl
+bare_at zero (t ∷ ts) = refl
+bare_at (suc k) (t ∷ ts) = bare_at k ts
+
+-- what is left next is a question of the open frames alone
+loops_left : (os : List Opened) (a b : Own) → a.opened ≡ b.opened → (out_of_loops_by os a).opened ≡ (out_of_loops_by os b).opened
+loops_left [] a b is = is
+loops_left (o ∷ os) a b is = by (is_loop o.purpose)
+  where
+    by : (l : Bool) → (if l then out_of_loops_by os (record a { display = o.saved; opened = os }) else a).opened ≡ (if l then out_of_loops_by os (record b { display = o.saved; opened = os }) else b).opened
+    by true = loops_left os (record a { display = o.saved; opened = os }) (record b { display = o.saved; opened = os }) refl
+    by false = is
+
+construct_there : (a b : Own) → a.opened ≡ b.opened → construct_left a ≡ construct_left b
+construct_there a b is = ap (λ os. (out_of_loops_by os a).opened) is ∙ loops_left b.opened a b is
+
+or_so : {A B C : Type 0} → (B → C) → A ⊎ B → A ⊎ C
+or_so f (inl a) = inl a
+or_so f (inr b) = inr (f b)
+
+-- with the open frames of another, and what is pending of it
+abbrev framed : Own → Own → Own
+framed q o = record o { pending = q.pending; display = q.display; opened = q.opened }
+
+-- whether it keeps a master open
+abbrev keeps : ℕ → Own → Bool
+keeps master own = depends master own && not (may_terminate own)
+
+any_bares : (master : ℕ) (ts : List (TaskAt Seen)) → any (λ (t : TaskAt Seen). keeps master t.own) ts ≡ any (keeps master) (bares ts)
+any_bares master [] = refl
+any_bares master (t ∷ ts) = ap (λ b. keeps master t.own || b) (any_bares master ts)
+
+-- what cells hold then, and the output
+pub record Left : Type 0 where
+  pub frames : List Frame
+  pub output : List ℕ
+
+abbrev pub left_in : Shared → Left
+left_in shared = record { frames = shared.frames; output = shared.output }
+
+-- with other frames, another output and other choices, after other steps
+abbrev pub elsewhere : List (TaskAt Seen) → Left → List ℕ → ℕ → All Seen → All Seen
+elsewhere us left choices steps d = record d { tasks = us; shared = record d.shared { frames = left.frames; output = left.output }; choices = choices; steps = steps }
 
 -- no object has an action under way
 abbrev pub AreIdle : All Seen → Type 0
@@ -127,31 +192,33 @@ quiet_same : (Other : Type 0) (ms ns : List Move) → (Other → HasSome ms → 
 quiet_same Other ms ns quiet (same_moves is) = is
 quiet_same Other ms ns quiet (some_moves other some there) = absurd (quiet other some)
 
-module _ (plan : Plan) (barrier : ℕ → Sight → Result Bool Raise) (Free : Status → Type 0) (Served : Type 0) (d : All Seen) (free : Free Running → AreIdle d) (us : List (TaskAt Seen)) (frames : List Frame) (choices : List ℕ) (steps : ℕ) (serves : Served → ServesAlike plan barrier d (elsewhere us frames choices steps d)) (same : owns d.tasks ≡ owns us) where
+module _ (plan : Plan) (barrier : ℕ → Sight → Result Bool Raise) (Free : Status → Type 0) (Served : Type 0) (d : All Seen) (free : Free Running → AreIdle d) (us : List (TaskAt Seen)) (left : Left) (choices : List ℕ) (steps : ℕ) (serves : Served → ServesAlike plan barrier d (elsewhere us left choices steps d)) (Moved : ℕ → Type 0) (same : bares d.tasks ≡ bares us) (opens : (n : ℕ) → (opened_at n d.tasks ≡ opened_at n us) ⊎ Moved n) where
   abbrev e : All Seen
-  e = elsewhere us frames choices steps d
+  e = elsewhere us left choices steps d
 
   closable : (master : ℕ) → Closable master d ≡ Closable master e
-  closable master =
-      let f : Own → Bool = λ o. depends master o && not (may_terminate o) in
-      ap not (any_owns f d.tasks ∙ ap (any f) same ∙ sym (any_owns f us))
+  closable master = ap not (any_bares master d.tasks ∙ ap (any (keeps master)) same ∙ sym (any_bares master us))
 
-  own_there : (n : ℕ) → own_of n d ≡ own_of n e
-  own_there n = ap (λ os. slice_index_or os n nobody) same
+  bare_there : (n : ℕ) → bare (own_of n d) ≡ bare (own_of n e)
+  bare_there n = bare_at n d.tasks ∙ ap (λ os. slice_index_or os n nobody) same ∙ sym (bare_at n us)
 
   end_there : (master : Option ℕ) (n : ℕ) → end_moves plan barrier master n d ≡ end_moves plan barrier master n e
   end_there None n = refl
   end_there (Some master) n = ap (λ b. only plan barrier b n) (closable master)
 
-  coming_there : (x : Coming) (n : ℕ) → acting_moves plan barrier x n d ≡ acting_moves plan barrier x n e
-  coming_there (simply w) n = refl
-  coming_there ending n =
-      ap (λ (o : Own). end_moves plan barrier (master_left_by (construct_left o)) n d) (own_there n)
+  leaving_there : (n : ℕ) → (own_of n d).opened ≡ (own_of n e).opened → acting_moves plan barrier ending n d ≡ acting_moves plan barrier ending n e
+  leaving_there n is =
+      ap (λ os. end_moves plan barrier (master_left_by os) n d) (construct_there (own_of n d) (own_of n e) is)
       ∙ end_there (master_left_by (construct_left (own_of n e))) n
-  coming_there (selecting ones) n = refl
-  coming_there (calling None entry) n = refl
-  coming_there (calling (Some task) entry) n = ap (λ (o : Own). each_or_one plan barrier (alternatives_of plan barrier (open_alternatives o entry)) n) (own_there task)
-  coming_there (starting object reading) n = refl
+
+  -- of what leaves nothing
+  coming_there : (x : Coming) (n : ℕ) → ¬ (x ≡ ending) → acting_moves plan barrier x n d ≡ acting_moves plan barrier x n e
+  coming_there (simply w) n other = refl
+  coming_there ending n other = absurd (other refl)
+  coming_there (selecting ones) n other = refl
+  coming_there (calling None entry) n other = refl
+  coming_there (calling (Some task) entry) n other = ap (λ (o : Own). each_or_one plan barrier (alternatives_of plan barrier (open_alternatives o entry)) n) (bare_there task)
+  coming_there (starting object reading) n other = refl
 
   each_some : (picked : List ℕ) (n : ℕ) → HasSome (each_or_one plan barrier picked n)
   each_some [] n = tt
@@ -169,24 +236,25 @@ module _ (plan : Plan) (barrier : ℕ → Sight → Result Bool Raise) (Free : S
   starts_free : (object : ℕ) (reading : Bool) (n : ℕ) → AreIdle d → acting_moves plan barrier (starting object reading) n d ≡ own_move n ∷ []
   starts_free object reading n idle = ap (λ b. only plan barrier (not b) n) (free_by (object_of object d).actions (object_of object d) n reading refl (idle object))
 
-  alike_there : (Other : Type 0) (x y : Coming) (n : ℕ) → AreAlike (Free Running) Other x y → AgreeMoves Other (acting_moves plan barrier x n d) (acting_moves plan barrier y n e)
-  alike_there Other (simply w) (simply v) n h = same_moves refl
-  alike_there Other ending ending n h = same_moves (coming_there ending n)
-  alike_there Other (selecting xs) (selecting ys) n (stays h) = same_moves (ap (λ zs. acting_moves plan barrier (selecting zs) n d) h ∙ coming_there (selecting ys) n)
-  alike_there Other (selecting xs) (selecting ys) n (differs other) =
+  alike_there : (Other : Type 0) (x y : Coming) (n : ℕ) → AreAlike (Free Running) Other x y → ((own_of n d).opened ≡ (own_of n e).opened) ⊎ GoesSimply Running x → AgreeMoves Other (acting_moves plan barrier x n d) (acting_moves plan barrier y n e)
+  alike_there Other (simply w) (simply v) n h f = same_moves refl
+  alike_there Other ending ending n h (inl is) = same_moves (leaving_there n is)
+  alike_there Other ending ending n h (inr f) = absurd f
+  alike_there Other (selecting xs) (selecting ys) n (stays h) f = same_moves (ap (λ zs. acting_moves plan barrier (selecting zs) n d) h ∙ coming_there (selecting ys) n (λ is. absurd cc))
+  alike_there Other (selecting xs) (selecting ys) n (differs other) f =
       some_moves other
       (each_some (alternatives_of plan barrier (filter (has_queue plan barrier n d) xs)) n)
       (each_some (alternatives_of plan barrier (filter (has_queue plan barrier n e) ys)) n)
-  alike_there Other (calling t x) (calling u y) n (stays h) =
+  alike_there Other (calling t x) (calling u y) n (stays h) f =
       same_moves
-      (ap (λ z. acting_moves plan barrier (calling z x) n d) h.0 ∙ ap (λ z. acting_moves plan barrier (calling u z) n d) h.1 ∙ coming_there (calling u y) n)
-  alike_there Other (calling t x) (calling u y) n (differs other) = some_moves other (call_some t x n d) (call_some u y n e)
-  alike_there Other (starting o r) (starting p q) n (stays h) =
+      (ap (λ z. acting_moves plan barrier (calling z x) n d) h.0 ∙ ap (λ z. acting_moves plan barrier (calling u z) n d) h.1 ∙ coming_there (calling u y) n (λ is. absurd cc))
+  alike_there Other (calling t x) (calling u y) n (differs other) f = some_moves other (call_some t x n d) (call_some u y n e)
+  alike_there Other (starting o r) (starting p q) n (stays h) f =
       same_moves
-      (ap (λ z. acting_moves plan barrier (starting z r) n d) h.0 ∙ ap (λ z. acting_moves plan barrier (starting p z) n d) h.1 ∙ coming_there (starting p q) n)
-  alike_there Other (starting o r) (starting p q) n (differs all) =
-      same_moves (starts_free o r n (free all) ∙ sym (starts_free p q n (free all)) ∙ coming_there (starting p q) n)
-  alike_there Other x y n h = same_moves (ap (λ c. acting_moves plan barrier c n d) h ∙ coming_there y n)
+      (ap (λ z. acting_moves plan barrier (starting z r) n d) h.0 ∙ ap (λ z. acting_moves plan barrier (starting p z) n d) h.1 ∙ coming_there (starting p q) n (λ is. absurd cc))
+  alike_there Other (starting o r) (starting p q) n (differs all) f =
+      same_moves (starts_free o r n (free all) ∙ sym (starts_free p q n (free all)) ∙ coming_there (starting p q) n (λ is. absurd cc))
+  alike_there Other x y n h f = absurd cc
 
   idle_there : (o : Owner) → owner_idle plan barrier o d ≡ owner_idle plan barrier o e
   idle_there (owner.Task m) = refl
@@ -203,30 +271,37 @@ module _ (plan : Plan) (barrier : ℕ → Sight → Result Bool Raise) (Free : S
     moves : AgreeMoves Other (turn_moves plan barrier u n d) (turn_moves plan barrier v n e)
     acts : is_acting u ≡ is_acting v
 
-  module _ (Other : Type 0) (n : ℕ) (x y : Seen) (o : Own) (alike : AreAlike (Free o.status) Other x.coming y.coming) (served : ServesSame Served Other o.serving) where
-    leave_there : (a b : Coming) → AreAlike (Free o.status) Other a b → is_leave a o ≡ is_leave b o
-    leave_there (simply w) (simply v) h = refl
-    leave_there ending ending h = refl
-    leave_there (selecting xs) (selecting ys) h = refl
-    leave_there (calling t x) (calling u y) h = refl
-    leave_there (starting x r) (starting y q) h = refl
-    leave_there a b h = ap (λ c. is_leave c o) h
+  module _ (Other : Type 0) (n : ℕ) (x y : Seen) (o q : Own) (kept : (o.opened ≡ q.opened) ⊎ GoesSimply o.status x.coming) (opened : ((own_of n d).opened ≡ (own_of n e).opened) ⊎ GoesSimply o.status x.coming) (alike : AreAlike (Free o.status) Other x.coming y.coming) (served : ServesSame Served Other o.serving) where
+    abbrev p : Own
+    p = framed q o
 
-    bound_there : (status : Status) → is_bound plan barrier status n (with_own x o) d ≡ is_bound plan barrier status n (with_own y o) e
-    bound_there Created = refl
-    bound_there Running = leave_there x.coming y.coming alike
-    bound_there Activating = refl
-    bound_there Accepting = refl
-    bound_there Delaying = refl
-    bound_there Calling = refl
-    bound_there Completed = refl
-    bound_there Terminated = refl
+    same_leave : o.opened ≡ q.opened → is_leave ending o ≡ is_leave ending p
+    same_leave is = rw (construct_there o p is) refl
 
-    deferred_there : Deferred plan barrier n (with_own x o) d ≡ Deferred plan barrier n (with_own y o) e
-    deferred_there = ap (λ b. if in_action n d then true else b) (bound_there o.status)
+    leave_there : (a b : Coming) → AreAlike (Free o.status) Other a b → (o.opened ≡ q.opened) ⊎ GoesSimply Running a → is_leave a o ≡ is_leave b p
+    leave_there (simply w) (simply v) h f = refl
+    leave_there ending ending h (inl is) = same_leave is
+    leave_there ending ending h (inr f) = absurd f
+    leave_there (selecting xs) (selecting ys) h f = refl
+    leave_there (calling t x) (calling u y) h f = refl
+    leave_there (starting x r) (starting y s) h f = refl
+    leave_there a b h f = absurd cc
+
+    bound_there : (status : Status) → (o.opened ≡ q.opened) ⊎ GoesSimply status x.coming → is_bound plan barrier status n (with_own x o) d ≡ is_bound plan barrier status n (with_own y p) e
+    bound_there Created f = refl
+    bound_there Running f = leave_there x.coming y.coming alike f
+    bound_there Activating f = refl
+    bound_there Accepting f = refl
+    bound_there Delaying f = refl
+    bound_there Calling f = refl
+    bound_there Completed f = refl
+    bound_there Terminated f = refl
+
+    deferred_there : Deferred plan barrier n (with_own x o) d ≡ Deferred plan barrier n (with_own y p) e
+    deferred_there = ap (λ b. if in_action n d then true else b) (bound_there o.status kept)
 
     abbrev SameUsual : Option Serving → Status → Type 0
-    SameUsual serving status = SameTurn Other n (usual plan barrier serving status n (with_own x o) d) (usual plan barrier serving status n (with_own y o) e)
+    SameUsual serving status = SameTurn Other n (usual plan barrier serving status n (with_own x o) d) (usual plan barrier serving status n (with_own y p) e)
 
     serving_there : (s : Serving) (status : Status) → ServesSame Served Other (Some s) → SameUsual (Some s) status
     serving_there s status (stays same) = record { moves = same_moves (ap (λ r. serve_moves plan barrier r n) (serves same s.object)); acts = refl }
@@ -235,47 +310,48 @@ module _ (plan : Plan) (barrier : ℕ → Sight → Result Bool Raise) (Free : S
       acts = refl;
     }
 
-    usual_there : (serving : Option Serving) (status : Status) → AreAlike (Free status) Other x.coming y.coming → ServesSame Served Other serving → SameUsual serving status
-    usual_there (Some s) status h same = serving_there s status same
-    usual_there None Created h same = record { moves = same_moves refl; acts = refl }
-    usual_there None Running h same = record { moves = alike_there Other x.coming y.coming n h; acts = refl }
-    usual_there None Activating h same = record { moves = same_moves refl; acts = refl }
-    usual_there None Accepting h same = record { moves = same_moves refl; acts = refl }
-    usual_there None Delaying h same = record { moves = same_moves refl; acts = refl }
-    usual_there None Calling h same = record { moves = same_moves (ap (λ times. map (λ time. own_move n) (filter (λ time. nat_le time d.clock) times)) (times_there (call_of o.call d))); acts = refl }
-    usual_there None Completed h same = record { moves = same_moves refl; acts = refl }
-    usual_there None Terminated h same = record { moves = same_moves refl; acts = refl }
+    usual_there : (serving : Option Serving) (status : Status) → AreAlike (Free status) Other x.coming y.coming → ServesSame Served Other serving → ((own_of n d).opened ≡ (own_of n e).opened) ⊎ GoesSimply status x.coming → SameUsual serving status
+    usual_there (Some s) status h same f = serving_there s status same
+    usual_there None Created h same f = record { moves = same_moves refl; acts = refl }
+    usual_there None Running h same f = record { moves = alike_there Other x.coming y.coming n h f; acts = refl }
+    usual_there None Activating h same f = record { moves = same_moves refl; acts = refl }
+    usual_there None Accepting h same f = record { moves = same_moves refl; acts = refl }
+    usual_there None Delaying h same f = record { moves = same_moves refl; acts = refl }
+    usual_there None Calling h same f = record { moves = same_moves (ap (λ times. map (λ time. own_move n) (filter (λ time. nat_le time d.clock) times)) (times_there (call_of o.call d))); acts = refl }
+    usual_there None Completed h same f = record { moves = same_moves refl; acts = refl }
+    usual_there None Terminated h same f = record { moves = same_moves refl; acts = refl }
 
     once_there : (withdraw : Option ℕ) → SameTurn Other n (at_once plan barrier withdraw) (at_once plan barrier withdraw)
     once_there None = record { moves = same_moves refl; acts = refl }
     once_there (Some object) = record { moves = same_moves refl; acts = refl }
 
-    under_there : (abnormal : Bool) → SameTurn Other n (under_way plan barrier abnormal n (with_own x o) d) (under_way plan barrier abnormal n (with_own y o) e)
-    under_there false = usual_there o.serving o.status alike served
-    under_there true = by (Deferred plan barrier n (with_own x o) d) (Deferred plan barrier n (with_own y o) e) refl refl deferred_there
+    under_there : (abnormal : Bool) → SameTurn Other n (under_way plan barrier abnormal n (with_own x o) d) (under_way plan barrier abnormal n (with_own y p) e)
+    under_there false = usual_there o.serving o.status alike served opened
+    under_there true = by (Deferred plan barrier n (with_own x o) d) (Deferred plan barrier n (with_own y p) e) refl refl deferred_there
       where
-        by : (b c : Bool) → Deferred plan barrier n (with_own x o) d ≡ b → Deferred plan barrier n (with_own y o) e ≡ c → b ≡ c → SameTurn Other n (under_way plan barrier true n (with_own x o) d) (under_way plan barrier true n (with_own y o) e)
-        by true true f g h = rw (f, g) (usual_there o.serving o.status alike served)
+        by : (b c : Bool) → Deferred plan barrier n (with_own x o) d ≡ b → Deferred plan barrier n (with_own y p) e ≡ c → b ≡ c → SameTurn Other n (under_way plan barrier true n (with_own x o) d) (under_way plan barrier true n (with_own y p) e)
+        by true true f g h = rw (f, g) (usual_there o.serving o.status alike served opened)
         by false false f g h = rw (f, g) (once_there o.withdraw)
         by true false f g h = absurd cc
         by false true f g h = absurd cc
 
-    turn_there : (status : Status) → SameTurn Other n (turn_by plan barrier status n (with_own x o) d) (turn_by plan barrier status n (with_own y o) e)
-    turn_there Created = record { moves = same_moves refl; acts = refl }
-    turn_there Running = under_there o.abnormal
-    turn_there Activating = under_there o.abnormal
-    turn_there Accepting = under_there o.abnormal
-    turn_there Delaying = under_there o.abnormal
-    turn_there Calling = under_there o.abnormal
-    turn_there Completed = record { moves = same_moves (ap (λ (p : Own). only plan barrier (Closable (body_master p) d) n) (own_there n) ∙ ap (λ b. only plan barrier b n) (closable (body_master (own_of n e)))); acts = refl }
-    turn_there Terminated = record { moves = same_moves refl; acts = refl }
+    turn_there : (status : Status) → ((own_of n d).opened ≡ (own_of n e).opened) ⊎ GoesSimply status x.coming → SameTurn Other n (turn_by plan barrier status n (with_own x o) d) (turn_by plan barrier status n (with_own y p) e)
+    turn_there Created f = record { moves = same_moves refl; acts = refl }
+    turn_there Running f = under_there o.abnormal
+    turn_there Activating f = under_there o.abnormal
+    turn_there Accepting f = under_there o.abnormal
+    turn_there Delaying f = under_there o.abnormal
+    turn_there Calling f = under_there o.abnormal
+    turn_there Completed (inl is) = record { moves = same_moves (ap (λ os. only plan barrier (Closable (outermost os) d) n) is ∙ ap (λ b. only plan barrier b n) (closable (body_master (own_of n e)))); acts = refl }
+    turn_there Completed (inr f) = absurd f
+    turn_there Terminated f = record { moves = same_moves refl; acts = refl }
 
-  task_there : (Other : Type 0) (n : ℕ) (t u : TaskAt Seen) → AlikeTask Free Served Other t u → SameTurn Other n (turn plan barrier n t d) (turn plan barrier n u e)
+  task_there : (Other : Type 0) (n : ℕ) (t u : TaskAt Seen) → AlikeTask Free Served Other (Moved n) t u → SameTurn Other n (turn plan barrier n t d) (turn plan barrier n u e)
   task_there Other n t u h =
-      subst (λ (o : Own). SameTurn Other n (turn plan barrier n t d) (turn plan barrier n (with_own u.control o) e)) h.own
-      (turn_there Other n t.control u.control t.own h.coming h.serving t.own.status)
+      subst (λ (o : Own). SameTurn Other n (turn plan barrier n t d) (turn plan barrier n (with_own u.control o) e)) (ap (framed u.own) h.own)
+      (turn_there Other n t.control u.control t.own u.own (or_so h.moved h.opened) (or_so h.moved (opens n)) h.coming h.serving t.own.status (or_so h.moved (opens n)))
 
-  acts_there : (Other : ℕ → Type 0) (n k i : ℕ) (ts vs : List (TaskAt Seen)) → k + i ≡ n → AlikeTasks Free Served Other k ts vs → is_acting (turn_at plan barrier (slice_get ts i) n d) ≡ is_acting (turn_at plan barrier (slice_get vs i) n e)
+  acts_there : (Other : ℕ → Type 0) (n k i : ℕ) (ts vs : List (TaskAt Seen)) → k + i ≡ n → AlikeTasks Free Served Other Moved k ts vs → is_acting (turn_at plan barrier (slice_get ts i) n d) ≡ is_acting (turn_at plan barrier (slice_get vs i) n e)
   acts_there Other n k i [] [] at h = refl
   acts_there Other n k i [] (v ∷ vs) at h = absurd h
   acts_there Other n k i (t ∷ ts) [] at h = absurd h
@@ -283,11 +359,11 @@ module _ (plan : Plan) (barrier : ℕ → Sight → Result Bool Raise) (Free : S
   acts_there Other n k (suc i) (t ∷ ts) (v ∷ vs) at h = acts_there Other n (suc k) i ts vs (omega (arith, at)) h.1
 
   -- those of a task, in both
-  moves_of_task : (Other : ℕ → Type 0) (n : ℕ) (t v : TaskAt Seen) → AlikeTask Free Served (Other n) t v → AgreeMoves (Other n) (turn_moves plan barrier (turn plan barrier n t d) n d) (turn_moves plan barrier (turn plan barrier n v e) n e)
+  moves_of_task : (Other : ℕ → Type 0) (n : ℕ) (t v : TaskAt Seen) → AlikeTask Free Served (Other n) (Moved n) t v → AgreeMoves (Other n) (turn_moves plan barrier (turn plan barrier n t d) n d) (turn_moves plan barrier (turn plan barrier n v e) n e)
   moves_of_task Other n t v h = (task_there (Other n) n t v h).moves
 
   -- where they differ of no task
-  all_there : (n : ℕ) (ts vs : List (TaskAt Seen)) → AlikeTasks Free Served (λ k. ⊥) n ts vs → moves_from plan barrier n ts d ≡ moves_from plan barrier n vs e
+  all_there : (n : ℕ) (ts vs : List (TaskAt Seen)) → AlikeTasks Free Served (λ k. ⊥) Moved n ts vs → moves_from plan barrier n ts d ≡ moves_from plan barrier n vs e
   all_there n [] [] h = refl
   all_there n [] (v ∷ vs) h = absurd h
   all_there n (t ∷ ts) [] h = absurd h
@@ -296,10 +372,10 @@ module _ (plan : Plan) (barrier : ℕ → Sight → Result Bool Raise) (Free : S
       ∙ ap (λ ms. turn_moves plan barrier (turn plan barrier n v e) n e ++ ms) (all_there (suc n) ts vs h.1)
 
   -- the same of such a task in both, and of all
-  pub quiet_task : (Other : Type 0) (n : ℕ) (t v : TaskAt Seen) → (Other → HasSome (turn_moves plan barrier (turn plan barrier n t d) n d) → ⊥) → AlikeTask Free Served Other t v → turn_moves plan barrier (turn plan barrier n t d) n d ≡ turn_moves plan barrier (turn plan barrier n v e) n e
+  pub quiet_task : (Other : Type 0) (n : ℕ) (t v : TaskAt Seen) → (Other → HasSome (turn_moves plan barrier (turn plan barrier n t d) n d) → ⊥) → AlikeTask Free Served Other (Moved n) t v → turn_moves plan barrier (turn plan barrier n t d) n d ≡ turn_moves plan barrier (turn plan barrier n v e) n e
   quiet_task Other n t v quiet h = quiet_same Other _ _ quiet (task_there Other n t v h).moves
 
-  quiet_there : (Other : ℕ → Type 0) (n : ℕ) (ts vs : List (TaskAt Seen)) → Quiet plan barrier d Other n ts → AlikeTasks Free Served Other n ts vs → moves_from plan barrier n ts d ≡ moves_from plan barrier n vs e
+  quiet_there : (Other : ℕ → Type 0) (n : ℕ) (ts vs : List (TaskAt Seen)) → Quiet plan barrier d Other n ts → AlikeTasks Free Served Other Moved n ts vs → moves_from plan barrier n ts d ≡ moves_from plan barrier n vs e
   quiet_there Other n [] [] quiet h = refl
   quiet_there Other n [] (v ∷ vs) quiet h = absurd h
   quiet_there Other n (t ∷ ts) [] quiet h = absurd h
@@ -308,7 +384,7 @@ module _ (plan : Plan) (barrier : ℕ → Sight → Result Bool Raise) (Free : S
       ∙ ap (λ l. turn_moves plan barrier (turn plan barrier n v e) n e ++ l) (quiet_there Other (suc n) ts vs quiet.1 h.1)
 
   -- none in both, where there is none in the one
-  none_there : (Other : ℕ → Type 0) (n : ℕ) (ts vs : List (TaskAt Seen)) → AlikeTasks Free Served Other n ts vs → moves_from plan barrier n ts d ≡ [] → moves_from plan barrier n vs e ≡ []
+  none_there : (Other : ℕ → Type 0) (n : ℕ) (ts vs : List (TaskAt Seen)) → AlikeTasks Free Served Other Moved n ts vs → moves_from plan barrier n ts d ≡ [] → moves_from plan barrier n vs e ≡ []
   none_there Other n [] [] h none = refl
   none_there Other n [] (v ∷ vs) h none = absurd h
   none_there Other n (t ∷ ts) [] h none = absurd h
@@ -342,7 +418,7 @@ module _ (plan : Plan) (barrier : ℕ → Sight → Result Bool Raise) (Free : S
     first_by n (m ∷ ms) ns rest left others theirs (some_moves other some there) first here none =
         absurd (other (sym theirs.0 ∙ ap (λ (x : Move). x.task) (head_of m (own_move of) (ms ++ rest) others first)))
 
-    first_there : (n : ℕ) (ts vs : List (TaskAt Seen)) (others : List Move) → AlikeTasks Free Served Others n ts vs → moves_from plan barrier n ts d ≡ own_move of ∷ others → Behind others (moves_from plan barrier n vs e)
+    first_there : (n : ℕ) (ts vs : List (TaskAt Seen)) (others : List Move) → AlikeTasks Free Served Others Moved n ts vs → moves_from plan barrier n ts d ≡ own_move of ∷ others → Behind others (moves_from plan barrier n vs e)
     first_there n [] [] others h first = absurd cc
     first_there n [] (v ∷ vs) others h first = absurd h
     first_there n (t ∷ ts) [] others h first = absurd h
@@ -355,11 +431,11 @@ module _ (plan : Plan) (barrier : ℕ → Sight → Result Bool Raise) (Free : S
         (λ none. first_there (suc n) ts vs others h.1 (sym (ap (λ l. l ++ rest) none) ∙ first))
         (none_there Others (suc n) ts vs h.1)
 
-module _ (plan : Plan) (barrier : ℕ → Sight → Result Bool Raise) (Free : Status → Type 0) (Served : Type 0) (Other : ℕ → Type 0) (d : All Seen) (free : Free Running → AreIdle d) (us : List (TaskAt Seen)) (frames : List Frame) (choices : List ℕ) (steps : ℕ) (serves : Served → ServesAlike plan barrier d (elsewhere us frames choices steps d)) (alike : AlikeTasks Free Served Other 0 d.tasks us) where
+module _ (plan : Plan) (barrier : ℕ → Sight → Result Bool Raise) (Free : Status → Type 0) (Served : Type 0) (Moved Other : ℕ → Type 0) (d : All Seen) (free : Free Running → AreIdle d) (us : List (TaskAt Seen)) (left : Left) (choices : List ℕ) (steps : ℕ) (serves : Served → ServesAlike plan barrier d (elsewhere us left choices steps d)) (alike : AlikeTasks Free Served Other Moved 0 d.tasks us) where
   abbrev there : All Seen
-  there = elsewhere us frames choices steps d
+  there = elsewhere us left choices steps d
 
-  ended_there : (n : ℕ) (ts vs : List (TaskAt Seen)) → AlikeTasks Free Served Other n ts vs → has_ended plan barrier ts ≡ has_ended plan barrier vs
+  ended_there : (n : ℕ) (ts vs : List (TaskAt Seen)) → AlikeTasks Free Served Other Moved n ts vs → has_ended plan barrier ts ≡ has_ended plan barrier vs
   ended_there n [] [] h = refl
   ended_there n [] (v ∷ vs) h = absurd h
   ended_there n (t ∷ ts) [] h = absurd h
@@ -370,51 +446,51 @@ module _ (plan : Plan) (barrier : ℕ → Sight → Result Bool Raise) (Free : S
 
   -- and its own statements go on at the next step of a task in both, or in neither
   pub acting_there : (n : ℕ) → is_acting (turn_at plan barrier (slice_get d.tasks n) n d) ≡ is_acting (turn_at plan barrier (slice_get us n) n there)
-  acting_there n = acts_there plan barrier Free Served d free us frames choices steps serves (owns_alike Free Served Other 0 d.tasks us alike) Other n 0 n d.tasks us (omega arith) alike
+  acting_there n = acts_there plan barrier Free Served d free us left choices steps serves Moved (bares_alike Free Served Other Moved 0 d.tasks us alike) (λ k. opened_alike Free Served Other Moved 0 k k d.tasks us (omega arith) alike) Other n 0 n d.tasks us (omega arith) alike
 
 -- nothing differs
-module _ (plan : Plan) (barrier : ℕ → Sight → Result Bool Raise) (Free : Status → Type 0) (Served : Type 0) (d : All Seen) (free : Free Running → AreIdle d) (us : List (TaskAt Seen)) (frames : List Frame) (choices : List ℕ) (steps : ℕ) (serves : Served → ServesAlike plan barrier d (elsewhere us frames choices steps d)) (alike : AlikeTasks Free Served (λ k. ⊥) 0 d.tasks us) where
+module _ (plan : Plan) (barrier : ℕ → Sight → Result Bool Raise) (Free : Status → Type 0) (Served : Type 0) (Moved : ℕ → Type 0) (d : All Seen) (free : Free Running → AreIdle d) (us : List (TaskAt Seen)) (left : Left) (choices : List ℕ) (steps : ℕ) (serves : Served → ServesAlike plan barrier d (elsewhere us left choices steps d)) (alike : AlikeTasks Free Served (λ k. ⊥) Moved 0 d.tasks us) where
   abbrev same_there : All Seen
-  same_there = there plan barrier Free Served (λ k. ⊥) d free us frames choices steps serves alike
+  same_there = there plan barrier Free Served Moved (λ k. ⊥) d free us left choices steps serves alike
 
   pub moves_there : moves plan barrier d ≡ moves plan barrier same_there
-  moves_there = ap (λ b. moves_by plan barrier b d.shared.cut d) (as_ended plan barrier Free Served (λ k. ⊥) d free us frames choices steps serves alike) ∙ by (has_ended plan barrier us) d.shared.cut
+  moves_there = ap (λ b. moves_by plan barrier b d.shared.cut d) (as_ended plan barrier Free Served Moved (λ k. ⊥) d free us left choices steps serves alike) ∙ by (has_ended plan barrier us) d.shared.cut
     where
       by : (ended cut : Bool) → moves_by plan barrier ended cut d ≡ moves_by plan barrier ended cut same_there
       by true cut = refl
       by false true = refl
-      by false false = all_there plan barrier Free Served d free us frames choices steps serves (owns_alike Free Served (λ k. ⊥) 0 d.tasks us alike) 0 d.tasks us alike
+      by false false = all_there plan barrier Free Served d free us left choices steps serves Moved (bares_alike Free Served (λ k. ⊥) Moved 0 d.tasks us alike) (λ k. opened_alike Free Served (λ k. ⊥) Moved 0 k k d.tasks us (omega arith) alike) 0 d.tasks us alike
 
 -- nothing differs of the task of a number
-module _ (plan : Plan) (barrier : ℕ → Sight → Result Bool Raise) (Free : Status → Type 0) (Served : Type 0) (of : ℕ) (d : All Seen) (free : Free Running → AreIdle d) (us : List (TaskAt Seen)) (frames : List Frame) (choices : List ℕ) (steps : ℕ) (serves : Served → ServesAlike plan barrier d (elsewhere us frames choices steps d)) (alike : AlikeTasks Free Served (λ k. ¬ (k ≡ of)) 0 d.tasks us) where
+module _ (plan : Plan) (barrier : ℕ → Sight → Result Bool Raise) (Free : Status → Type 0) (Served : Type 0) (Moved : ℕ → Type 0) (of : ℕ) (d : All Seen) (free : Free Running → AreIdle d) (us : List (TaskAt Seen)) (left : Left) (choices : List ℕ) (steps : ℕ) (serves : Served → ServesAlike plan barrier d (elsewhere us left choices steps d)) (alike : AlikeTasks Free Served (λ k. ¬ (k ≡ of)) Moved 0 d.tasks us) where
   abbrev Different : ℕ → Type 0
   Different k = ¬ (k ≡ of)
 
   abbrev other_there : All Seen
-  other_there = there plan barrier Free Served Different d free us frames choices steps serves alike
+  other_there = there plan barrier Free Served Moved Different d free us left choices steps serves alike
 
   pub first_still : (others : List Move) → moves plan barrier d ≡ own_move of ∷ others → (more : List Move) × (moves plan barrier other_there ≡ own_move of ∷ more) × (others ≡ [] → more ≡ [])
   first_still others first =
-      let is = as_ended plan barrier Free Served Different d free us frames choices steps serves alike in
+      let is = as_ended plan barrier Free Served Moved Different d free us left choices steps serves alike in
       by (has_ended plan barrier us) d.shared.cut (sym (ap (λ b. moves_by plan barrier b d.shared.cut d) is) ∙ first)
     where
       by : (ended cut : Bool) → moves_by plan barrier ended cut d ≡ own_move of ∷ others → (more : List Move) × (moves_by plan barrier ended cut other_there ≡ own_move of ∷ more) × (others ≡ [] → more ≡ [])
       by true cut h = absurd cc
       by false true h = absurd cc
-      by false false h = first_there plan barrier Free Served d free us frames choices steps serves (owns_alike Free Served Different 0 d.tasks us alike) of 0 d.tasks us others alike h
+      by false false h = first_there plan barrier Free Served d free us left choices steps serves Moved (bares_alike Free Served Different Moved 0 d.tasks us alike) (λ k. opened_alike Free Served Different Moved 0 k k d.tasks us (omega arith) alike) of 0 d.tasks us others alike h
 
 -- those of which they may differ have none
-module _ (plan : Plan) (barrier : ℕ → Sight → Result Bool Raise) (Free : Status → Type 0) (Served : Type 0) (Other : ℕ → Type 0) (d : All Seen) (free : Free Running → AreIdle d) (us : List (TaskAt Seen)) (frames : List Frame) (choices : List ℕ) (steps : ℕ) (serves : Served → ServesAlike plan barrier d (elsewhere us frames choices steps d)) (alike : AlikeTasks Free Served Other 0 d.tasks us) where
+module _ (plan : Plan) (barrier : ℕ → Sight → Result Bool Raise) (Free : Status → Type 0) (Served : Type 0) (Moved Other : ℕ → Type 0) (d : All Seen) (free : Free Running → AreIdle d) (us : List (TaskAt Seen)) (left : Left) (choices : List ℕ) (steps : ℕ) (serves : Served → ServesAlike plan barrier d (elsewhere us left choices steps d)) (alike : AlikeTasks Free Served Other Moved 0 d.tasks us) where
   abbrev quietly_there : All Seen
-  quietly_there = there plan barrier Free Served Other d free us frames choices steps serves alike
+  quietly_there = there plan barrier Free Served Moved Other d free us left choices steps serves alike
 
   pub moves_quiet : Quiet plan barrier d Other 0 d.tasks → moves plan barrier d ≡ moves plan barrier quietly_there
-  moves_quiet quiet = ap (λ b. moves_by plan barrier b d.shared.cut d) (as_ended plan barrier Free Served Other d free us frames choices steps serves alike) ∙ by (has_ended plan barrier us) d.shared.cut
+  moves_quiet quiet = ap (λ b. moves_by plan barrier b d.shared.cut d) (as_ended plan barrier Free Served Moved Other d free us left choices steps serves alike) ∙ by (has_ended plan barrier us) d.shared.cut
     where
       by : (ended cut : Bool) → moves_by plan barrier ended cut d ≡ moves_by plan barrier ended cut quietly_there
       by true cut = refl
       by false true = refl
-      by false false = quiet_there plan barrier Free Served d free us frames choices steps serves (owns_alike Free Served Other 0 d.tasks us alike) Other 0 d.tasks us quiet alike
+      by false false = quiet_there plan barrier Free Served d free us left choices steps serves Moved (bares_alike Free Served Other Moved 0 d.tasks us alike) (λ k. opened_alike Free Served Other Moved 0 k k d.tasks us (omega arith) alike) Other 0 d.tasks us quiet alike
 
-  pub task_quiet : (n : ℕ) (t v : TaskAt Seen) → (Other n → HasSome (turn_moves plan barrier (turn plan barrier n t d) n d) → ⊥) → AlikeTask Free Served (Other n) t v → turn_moves plan barrier (turn plan barrier n t d) n d ≡ turn_moves plan barrier (turn plan barrier n v quietly_there) n quietly_there
-  task_quiet n t v quiet h = quiet_task plan barrier Free Served d free us frames choices steps serves (owns_alike Free Served Other 0 d.tasks us alike) (Other n) n t v quiet h
+  pub task_quiet : (n : ℕ) (t v : TaskAt Seen) → (Other n → HasSome (turn_moves plan barrier (turn plan barrier n t d) n d) → ⊥) → AlikeTask Free Served (Other n) (Moved n) t v → turn_moves plan barrier (turn plan barrier n t d) n d ≡ turn_moves plan barrier (turn plan barrier n v quietly_there) n quietly_there
+  task_quiet n t v quiet h = quiet_task plan barrier Free Served d free us left choices steps serves Moved (bares_alike Free Served Other Moved 0 d.tasks us alike) (λ k. opened_alike Free Served Other Moved 0 k k d.tasks us (omega arith) alike) (Other n) n t v quiet h

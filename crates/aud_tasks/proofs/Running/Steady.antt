@@ -8,13 +8,15 @@ use Rattle.aud_meaning.specs.declared.state.Move.{Move}
 use Rattle.aud_meaning.specs.declared.state.Serving.{Serving}
 use Rattle.aud_meaning.specs.declared.state.Status.{Status}
 use Rattle.aud_meaning.specs.declared.state.Status.TheVariants.{Created, Running, Activating, Accepting, Delaying, Calling, Completed, Terminated}
-use Rattle.aud_meaning.specs.Configuration.{Frame, Own, Shared, TaskAt, All}
+use Rattle.aud_meaning.specs.Configuration.{Own, Shared, TaskAt, All}
 use Rattle.aud_meaning.specs.Control.{Coming, Seen, simply, ending, selecting, calling, starting, Controls}
-use Rattle.aud_meaning.specs.Parts.{nobody, owns, own_of, changed, sight_in, sight_of, on_control, with_frames}
+use Rattle.aud_meaning.specs.Parts.{nobody, owns, own_of, changed, sight_in, sight_of}
+use Rattle.aud_meaning.specs.Ties.Part.{Part}
 use Rattle.aud_meaning.specs.Run.{acting_moves, each_or_one, seen, seen_from, moves_at, shown_place, turn, turn_at, turn_moves}
 use Rattle.aud_code.specs.Places.{Spot}
 use Rattle.aud_code.specs.Flat.{Flat, barrier_at, flat_controls, coming_at}
 use Rattle.aud_code.specs.View.{EndsPlainly}
+use Rattle.aud_state.specs.Fast.{stands_so}
 use Rattle.aud_state.specs.Reads.{IsPlain, coming_by}
 use Rattle.aud_sequential.specs.Fast.{ComesPlainly}
 use Rattle.aud_tasks.specs.Choices.{IsNoStart}
@@ -24,8 +26,8 @@ use Rattle.aud_tasks.specs.Running.{AreIdle, AreSimple, AreSteady, BeginsNone}
 use Rattle.aud_tasks.proofs.StepLaws.Turning.{turn_plain}
 use Rattle.aud_tasks.proofs.ViewLaws.Seen.{one_seen, seen_at}
 use Rattle.aud_tasks.proofs.Running.Moves as moves
-use Rattle.aud_tasks.proofs.Running.Moves.{AreAlike, AlikeTasks, HasSome, stays, differs}
-use Rattle.aud_tasks.proofs.Running.Still.{GoesThere, changed_other, comes_alike, goes_alike, still_no_start}
+use Rattle.aud_tasks.proofs.Running.Moves.{AreAlike, AlikeTasks, GoesSimply, HasSome, left_in, stays, differs}
+use Rattle.aud_tasks.proofs.Running.Still.{GoesThere, changed_other, comes_alike, goes_alike, goes_simply, gone_on, still_no_start}
 
 -- at a select or a call
 abbrev IsChoice : Coming → Type 0
@@ -75,18 +77,18 @@ own_at [] n t at = absurd cc
 own_at (x ∷ ts) zero t at = ap (λ (y : TaskAt Spot). y.own) (same_Some x t at)
 own_at (x ∷ ts) (suc n) t at = own_at ts n t at
 
--- owns stay where a task stands elsewhere, and so do the others
-own_changed : (u : Spot) (m k : ℕ) (ts : List (TaskAt Spot)) → slice_index_or (owns (changed m (λ (t : TaskAt Spot). record t { control = u }) ts)) k nobody ≡ slice_index_or (owns ts) k nobody
-own_changed u m k [] = refl
-own_changed u zero zero (t ∷ ts) = refl
-own_changed u zero (suc k) (t ∷ ts) = refl
-own_changed u (suc m) zero (t ∷ ts) = refl
-own_changed u (suc m) (suc k) (t ∷ ts) = own_changed u m k ts
+-- a task stays plain where one stands elsewhere
+plain_there : (p : Part Spot) (m k : ℕ) (ts : List (TaskAt Spot)) → IsPlain (slice_index_or (owns ts) k nobody) → IsPlain (slice_index_or (owns (changed m (stands_so p) ts)) k nobody)
+plain_there p m k [] h = h
+plain_there p zero zero (t ∷ ts) h = record { runs = h.runs; normal = h.normal; free = h.free }
+plain_there p zero (suc k) (t ∷ ts) h = h
+plain_there p (suc m) zero (t ∷ ts) h = h
+plain_there p (suc m) (suc k) (t ∷ ts) h = plain_there p m k ts h
 
-pub here_changed : (u : Spot) (n : ℕ) (t : TaskAt Spot) (ts : List (TaskAt Spot)) → slice_get ts n ≡ Some t → slice_get (changed n (λ (x : TaskAt Spot). record x { control = u }) ts) n ≡ Some (record t { control = u })
-here_changed u n t [] at = absurd cc
-here_changed u zero t (x ∷ ts) at = ap (λ (y : TaskAt Spot). Some (record y { control = u })) (same_Some x t at)
-here_changed u (suc n) t (x ∷ ts) at = here_changed u n t ts at
+pub here_changed : (p : Part Spot) (n : ℕ) (t : TaskAt Spot) (ts : List (TaskAt Spot)) → slice_get ts n ≡ Some t → slice_get (changed n (stands_so p) ts) n ≡ Some (stands_so p t)
+here_changed p n t [] at = absurd cc
+here_changed p zero t (x ∷ ts) at = ap (λ (y : TaskAt Spot). Some (stands_so p y)) (same_Some x t at)
+here_changed p (suc n) t (x ∷ ts) at = here_changed p n t ts at
 
 -- a task is this one, or another
 same_or_other : (k n : ℕ) → (k ≡ n) ⊎ (k ≡ n → ⊥)
@@ -136,13 +138,10 @@ module _ (plan : Plan) (code : Flat) where
   abbrev seen_task : ℕ → TaskAt Spot → List Own → Shared → TaskAt Seen
   seen_task i t os shared = record { control = record { coming = coming_at code plan t.own.pending (sight_in i os shared) t.control; place = shown_place plan K t.own.pending t.control }; own = t.own }
 
-  abbrev goes_to : Spot → TaskAt Spot → TaskAt Spot
-  goes_to u t = record t { control = u }
-
   -- a task that acts simply goes on to another simple step
-  module _ (plain : EndsPlainly code) (c : All Spot) (n : ℕ) (steady : AreSteady plan code c) (t : TaskAt Spot) (u : Spot) (frames : List Frame) (at : slice_get c.tasks n ≡ Some t) (goes : GoesThere plan code t u) where
+  module _ (plain : EndsPlainly code) (c : All Spot) (n : ℕ) (steady : AreSteady plan code c) (t : TaskAt Spot) (p : Part Spot) (at : slice_get c.tasks n ≡ Some t) (goes : GoesThere plan code t p) where
     abbrev gone : All Spot
-    gone = with_frames frames (on_control n (λ v. u) (record c { steps = suc c.steps }))
+    gone = gone_on n p c
 
     abbrev Free : Status → Type 0
     Free status = status ≡ Running → AreIdle c
@@ -152,7 +151,7 @@ module _ (plan : Plan) (code : Flat) where
     Other k = IsPlain (own_of k c) → ⊥
 
     abbrev Alike : ℕ → TaskAt Spot → TaskAt Spot → Type 0
-    Alike k x y = moves.AlikeTask Free ⊥ (Other k) (seen_task k x (owns c.tasks) c.shared) (seen_task k y (owns gone.tasks) gone.shared)
+    Alike k x y = moves.AlikeTask Free ⊥ (Other k) (k ≡ n) (seen_task k x (owns c.tasks) c.shared) (seen_task k y (owns gone.tasks) gone.shared)
 
     comes_in : (k : ℕ) (x : TaskAt Spot) → slice_get c.tasks k ≡ Some x → coming_in plan code k c ≡ coming_at code plan x.own.pending (sight_of k c) x.control
     comes_in k x there = ap (coming_by code plan (sight_of k c)) there
@@ -178,9 +177,16 @@ module _ (plan : Plan) (code : Flat) where
         open_to : IsNoStart (coming_at code plan x.own.pending (sight_of k c) x.control) ⊎ (x.own.status ≡ Running → AreIdle c)
         open_to = opens steady.starts k x there x.own.status refl
 
+        moves_simply : k ≡ n → GoesSimply x.own.status (coming_at code plan x.own.pending (sight_of k c) x.control)
+        moves_simply is =
+            subst (λ (y : TaskAt Spot). GoesSimply y.own.status (coming_at code plan y.own.pending (sight_of k c) y.control)) (same_Some t x (sym at ∙ ap (slice_get c.tasks) (sym is) ∙ there))
+            (goes_simply plan code (AreIdle c) plain (owns c.tasks) (owns gone.tasks) c.shared gone.shared n t p (sight_of k c) goes)
+
         by : IsPlain x.own ⊎ (IsPlain x.own → ⊥) → Alike k x x
         by (inl is) = record {
           own = refl;
+          opened = inl refl;
+          moved = moves_simply;
           coming = unchosen_alike (Free x.own.status) (Other k)
               (coming_at code plan x.own.pending (sight_of k c) x.control) (coming_at code plan x.own.pending (sight_of k gone) x.control)
               (λ choice. no_choice k c steady.simple (subst IsPlain (sym (own_at c.tasks k x there)) is) (subst IsChoice (sym (comes_in k x there)) choice))
@@ -191,14 +197,18 @@ module _ (plan : Plan) (code : Flat) where
             let other : Other k = λ is. not (subst IsPlain (own_at c.tasks k x there) is) in
             record {
               own = refl;
+              opened = inl refl;
+              moved = moves_simply;
               coming = comes_alike (Free x.own.status) (Other k) other plan (sight_of k c) (sight_of k gone) code plain x.own.pending x.control open_to;
               serving = differs other;
             }
 
-    own_alike : (i : ℕ) (x : TaskAt Spot) → GoesThere plan code x u → Alike i x (goes_to u x)
-    own_alike i x there = record {
+    own_alike : (i : ℕ) (x : TaskAt Spot) → i ≡ n → GoesThere plan code x p → Alike i x (stands_so p x)
+    own_alike i x is there = record {
       own = refl;
-      coming = goes_alike plan code (AreIdle c) plain (owns c.tasks) (owns gone.tasks) c.shared gone.shared n (Free x.own.status) (Other i) i x u there;
+      opened = inr is;
+      moved = λ it. goes_simply plan code (AreIdle c) plain (owns c.tasks) (owns gone.tasks) c.shared gone.shared n x p (sight_of i c) there;
+      coming = goes_alike plan code (AreIdle c) plain (owns c.tasks) (owns gone.tasks) c.shared gone.shared n (Free x.own.status) (Other i) i x p there;
       serving = stays there.services;
     }
 
@@ -211,22 +221,22 @@ module _ (plan : Plan) (code : Flat) where
     each_alike i (x ∷ ts) h = (h i 0 x (omega arith) refl, each_alike (suc i) ts (λ k j y is there. h k (suc j) y (omega (arith, is)) there))
 
     abbrev AllAlike : ℕ → List (TaskAt Spot) → List (TaskAt Spot) → Type 0
-    AllAlike i ts us = AlikeTasks Free ⊥ Other i (seen_from plan K i ts (owns c.tasks) c.shared) (seen_from plan K i us (owns gone.tasks) gone.shared)
+    AllAlike i ts us = AlikeTasks Free ⊥ Other (λ k. k ≡ n) i (seen_from plan K i ts (owns c.tasks) c.shared) (seen_from plan K i us (owns gone.tasks) gone.shared)
 
     behind_alike : (i : ℕ) (ts : List (TaskAt Spot)) → EachAlike i ts → AllAlike i ts ts
     behind_alike i [] each = tt
     behind_alike i (x ∷ ts) each = (each.0, behind_alike (suc i) ts each.1)
 
-    all_alike : (m i : ℕ) (ts : List (TaskAt Spot)) → slice_get ts m ≡ Some t → EachAlike i ts → AllAlike i ts (changed m (goes_to u) ts)
-    all_alike m i [] is each = tt
-    all_alike zero i (x ∷ ts) is each = (own_alike i x (subst (λ (y : TaskAt Spot). GoesThere plan code y u) (sym (same_Some x t is)) goes), behind_alike (suc i) ts each.1)
-    all_alike (suc m) i (x ∷ ts) is each = (each.0, all_alike m (suc i) ts is each.1)
+    all_alike : (m i : ℕ) (ts : List (TaskAt Spot)) → i + m ≡ n → slice_get ts m ≡ Some t → EachAlike i ts → AllAlike i ts (changed m (stands_so p) ts)
+    all_alike m i [] here is each = tt
+    all_alike zero i (x ∷ ts) here is each = (own_alike i x (omega (arith, here)) (subst (λ (y : TaskAt Spot). GoesThere plan code y p) (sym (same_Some x t is)) goes), behind_alike (suc i) ts each.1)
+    all_alike (suc m) i (x ∷ ts) here is each = (each.0, all_alike m (suc i) ts (omega (arith, here)) is each.1)
 
     abbrev d : All Seen
     d = seen plan K c
 
-    alike_gone : AlikeTasks Free ⊥ Other 0 d.tasks (seen plan K gone).tasks
-    alike_gone = all_alike n 0 c.tasks at (each_alike 0 c.tasks (λ k j x is there. let same : k ≡ j = omega (arith, is) in other_alike k x (ap (slice_get c.tasks) same ∙ there)))
+    alike_gone : AlikeTasks Free ⊥ Other (λ k. k ≡ n) 0 d.tasks (seen plan K gone).tasks
+    alike_gone = all_alike n 0 c.tasks (omega arith) at (each_alike 0 c.tasks (λ k j x is there. let same : k ≡ j = omega (arith, is) in other_alike k x (ap (slice_get c.tasks) same ∙ there)))
 
     -- one that has moves is plain
     seen_there : (k : ℕ) (x : TaskAt Spot) → slice_get c.tasks k ≡ Some x → slice_get d.tasks k ≡ Some (seen_task k x (owns c.tasks) c.shared)
@@ -249,38 +259,38 @@ module _ (plan : Plan) (code : Flat) where
     quiet_all = quiet_each 0 c.tasks (λ k j x is there. let same : k ≡ j = omega (arith, is) in ap (slice_get c.tasks) same ∙ there)
 
     pub moves_steady : moves_at plan K c ≡ moves_at plan K gone
-    moves_steady = moves.moves_quiet plan K.barrier Free ⊥ Other d (λ idle. idle refl) (seen plan K gone).tasks frames c.choices (suc c.steps) (λ none. absurd none) alike_gone quiet_all
+    moves_steady = moves.moves_quiet plan K.barrier Free ⊥ (λ k. k ≡ n) Other d (λ idle. idle refl) (seen plan K gone).tasks (left_in gone.shared) c.choices (suc c.steps) (λ none. absurd none) alike_gone quiet_all
 
     -- and it is so behind the step
     module _ (own_plain : IsPlain (own_of n c)) where
       moves_stay : (k : ℕ) (x : TaskAt Spot) → slice_get c.tasks k ≡ Some x → slice_get gone.tasks k ≡ Some x → moves_of plan code k c ≡ moves_of plan code k gone
       moves_stay k x there after =
           ap (λ w. turn_moves plan K.barrier w k d) (turn_there k x there)
-          ∙ moves.task_quiet plan K.barrier Free ⊥ Other d (λ idle. idle refl) (seen plan K gone).tasks frames c.choices (suc c.steps) (λ none. absurd none) alike_gone k
+          ∙ moves.task_quiet plan K.barrier Free ⊥ (λ k. k ≡ n) Other d (λ idle. idle refl) (seen plan K gone).tasks (left_in gone.shared) c.choices (suc c.steps) (λ none. absurd none) alike_gone k
           (seen_task k x (owns c.tasks) c.shared) (seen_task k x (owns gone.tasks) gone.shared)
           (λ other some. other (steady.simple k (some_there k x there some)).0) (other_alike k x there)
           ∙ sym (ap (λ o. turn_moves plan K.barrier (turn_at plan K.barrier o k (seen plan K gone)) k (seen plan K gone))
           (seen_at plan code 0 k k gone.tasks (owns gone.tasks) gone.shared (omega arith) ∙ ap (one_seen plan code k (owns gone.tasks) gone.shared) after))
 
-      own_gone : (k : ℕ) → own_of k gone ≡ own_of k c
-      own_gone k = own_changed u n k c.tasks
+      plain_gone : (k : ℕ) → IsPlain (own_of k c) → IsPlain (own_of k gone)
+      plain_gone k h = plain_there p n k c.tasks h
 
       abbrev Simple : ℕ → Type 0
       Simple k = IsPlain (own_of k gone) × IsSimple (coming_in plan code k gone)
 
       here_simple : (k : ℕ) → k ≡ n → Simple k
       here_simple k is = subst Simple (sym is) (
-        subst IsPlain (sym (own_gone n)) own_plain,
-        subst IsSimple (sym (ap (coming_by code plan (sight_of n gone)) (here_changed u n t c.tasks at) ∙ ap (λ p. coming_at code plan p (sight_of n gone) u) goes.none))
-            (plain_simple (coming_at code plan None (sight_of n gone) u) (goes.there (sight_of n gone))),
+        plain_gone n own_plain,
+        subst IsSimple (sym (ap (coming_by code plan (sight_of n gone)) (here_changed p n t c.tasks at) ∙ ap (λ x. coming_at code plan x (sight_of n gone) p.control) goes.none_there))
+            (plain_simple (coming_at code plan None (sight_of n gone) p.control) (goes.there (sight_of n gone))),
       )
 
       other_simple : (k : ℕ) (x : TaskAt Spot) → (k ≡ n → ⊥) → slice_get c.tasks k ≡ Some x → has_some (moves_of plan code k gone) ≡ true → Simple k
       other_simple k x other there some =
-          let after : slice_get gone.tasks k ≡ Some x = changed_other n k (goes_to u) c.tasks other ∙ there in
+          let after : slice_get gone.tasks k ≡ Some x = changed_other n k (stands_so p) c.tasks other ∙ there in
           let was = steady.simple k (ap has_some (moves_stay k x there after) ∙ some) in
           let simple : IsSimple (coming_at code plan x.own.pending (sight_of k c) x.control) = subst IsSimple (comes_in k x there) was.1 in (
-            subst IsPlain (sym (own_gone k)) was.0,
+            plain_gone k was.0,
             subst IsSimple (sym (ap (coming_by code plan (sight_of k gone)) after))
                 (simple_alike (coming_at code plan x.own.pending (sight_of k c) x.control) (coming_at code plan x.own.pending (sight_of k gone) x.control)
                 (comes_alike ⊥ (Unit {0}) tt plan (sight_of k c) (sight_of k gone) code plain x.own.pending x.control (inl (simple_no_start _ simple))) simple),
@@ -299,7 +309,7 @@ module _ (plan : Plan) (code : Flat) where
           by : (k ≡ n) ⊎ (k ≡ n → ⊥) → (o : Option (TaskAt Spot)) → slice_get c.tasks k ≡ o → Simple k
           by (inl is) o there = here_simple k is
           by (inr other) (Some x) there = other_simple k x other there some
-          by (inr other) None there = absurd (nobody_moves k (changed_other n k (goes_to u) c.tasks other ∙ there) some)
+          by (inr other) None there = absurd (nobody_moves k (changed_other n k (stands_so p) c.tasks other ∙ there) some)
 
       starts_gone : AreIdle c ⊎ BeginsNone plan code c → AreIdle gone ⊎ BeginsNone plan code gone
       starts_gone (inl idle) = inl idle
@@ -307,13 +317,13 @@ module _ (plan : Plan) (code : Flat) where
         where
           by : (k : ℕ) (x : TaskAt Spot) → slice_get gone.tasks k ≡ Some x → x.own.status ≡ Running → (k ≡ n) ⊎ (k ≡ n → ⊥) → IsNoStart (coming_at code plan x.own.pending (sight_of k gone) x.control)
           by k x after runs (inl is) =
-              let same : record t { control = u } ≡ x = same_Some (record t { control = u }) x (sym (here_changed u n t c.tasks at) ∙ ap (slice_get gone.tasks) (sym is) ∙ after) in
+              let same : stands_so p t ≡ x = same_Some (stands_so p t) x (sym (here_changed p n t c.tasks at) ∙ ap (slice_get gone.tasks) (sym is) ∙ after) in
               subst (λ (y : TaskAt Spot). IsNoStart (coming_at code plan y.own.pending (sight_of k gone) y.control)) same
-              (subst (λ p. IsNoStart (coming_at code plan p (sight_of k gone) u)) (sym goes.none)
+              (subst (λ z. IsNoStart (coming_at code plan z (sight_of k gone) p.control)) (sym goes.none_there)
               (simple_no_start _ (plain_simple _ (goes.there (sight_of k gone)))))
           by k x after runs (inr other) =
               still_no_start plan code plain (sight_of k c) (sight_of k gone) x.own.pending x.control
-              (none k x (sym (changed_other n k (goes_to u) c.tasks other) ∙ after) runs)
+              (none k x (sym (changed_other n k (stands_so p) c.tasks other) ∙ after) runs)
 
       pub steady_gone : AreSteady plan code gone
       steady_gone = record { simple = simple_gone; starts = starts_gone steady.starts }

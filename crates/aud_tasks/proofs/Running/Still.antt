@@ -9,11 +9,12 @@ use Rattle.aud_meaning.specs.declared.state.Pending.{Pending}
 use Rattle.aud_meaning.specs.declared.state.Serving.{Serving}
 use Rattle.aud_meaning.specs.declared.state.Status.{Status}
 use Rattle.aud_meaning.specs.declared.state.Status.TheVariants.{Created, Running, Activating, Accepting, Delaying, Calling, Completed, Terminated}
-use Rattle.aud_meaning.specs.Configuration.{Frame, Own, Shared, TaskAt, All}
+use Rattle.aud_meaning.specs.Configuration.{Own, Shared, TaskAt, All}
 use Rattle.aud_meaning.specs.Evaluation.{Sight}
 use Rattle.aud_meaning.specs.Control.{Coming, Seen, simply, ending, selecting, calling, starting, Controls}
 use Rattle.aud_meaning.specs.Statements.{coming_raised}
-use Rattle.aud_meaning.specs.Parts.{owns, changed, queue, sight_in, sight_of, on_control, with_frames}
+use Rattle.aud_meaning.specs.Parts.{owns, changed, queue, sight_in, sight_of, on_shared, on_task}
+use Rattle.aud_meaning.specs.Ties.Part.{Part}
 use Rattle.aud_meaning.specs.Tasks.{barrier_of, eligible_from, eligible_if, entries_of}
 use Rattle.aud_meaning.specs.Run.{own_move, seen, seen_from, moves_at, Deferred, at_once, usual, under_way, turn_by, turn_at, shown_place}
 use Rattle.aud_code.specs.declared.line.EndLine.{EndLine}
@@ -27,11 +28,12 @@ use Rattle.aud_code.specs.Eval.{eval}
 use Rattle.aud_code.specs.Flat.{Flat, flat_controls, coming_at, coming_last, handler_at, instructions_at, no_scene}
 use Rattle.aud_code.specs.Flat as flat
 use Rattle.aud_code.specs.View.{plain_found, plain_last, EndsPlainly}
+use Rattle.aud_state.specs.Fast.{stands_so}
 use Rattle.aud_tasks.specs.Choices.{IsNoStart}
 use Rattle.aud_tasks.specs.Turning.{turn_in}
 use Rattle.aud_tasks.specs.Running.{is_acting, AreIdle, BeginsAlone, HindersNone}
 use Rattle.aud_tasks.proofs.Running.Moves as moves
-use Rattle.aud_tasks.proofs.Running.Moves.{AreAlike, alike_self, AlikeTasks, stays, differs, moves_there, acting_there}
+use Rattle.aud_tasks.proofs.Running.Moves.{AreAlike, alike_self, AlikeTasks, GoesSimply, left_in, stays, differs, moves_there, acting_there}
 use Rattle.aud_sequential.specs.Fast.{ComesPlainly}
 
 -- whether the step at a place leaves a construct is not a question of what is seen
@@ -86,6 +88,11 @@ module _ (Free Other : Type 0) (other : Other) (plan : Plan) (s r : Sight) where
       subst (λ (l : flat.EndLine). IsOpen (coming_last plan l.last s x) → AreAlike Free Other (coming_last plan l.last s x) (coming_last plan l.last r y)) (plain t.place).1 (found_alike t.place (plain t.place).0 x y) h
   comes_alike code plain (Some p) t h = alike_self Free Other (coming_raised (is_there (handler_at code p.exception t)))
 
+plainly_simply : (status : Status) (x : Coming) → status ≡ Running → ComesPlainly x → GoesSimply status x
+plainly_simply Running (simply w) runs h = tt
+plainly_simply Running x runs h = absurd h
+plainly_simply status x runs h = absurd cc
+
 plainly_alike : (Free Other : Type 0) (x y : Coming) → ComesPlainly x → ComesPlainly y → AreAlike Free Other x y
 plainly_alike Free Other (simply w) (simply v) h g = tt
 plainly_alike Free Other (simply w) y h g = absurd g
@@ -107,6 +114,10 @@ still_no_start plan code plain s r pending t none =
 
 -- Parts of tasks of which one stands elsewhere.
 
+-- it has gone on, one step later, and no output was cut
+abbrev pub gone_on : ℕ → Part Spot → All Spot → All Spot
+gone_on n p c = on_shared (λ s. record s { frames = p.frames; output = p.output }) (on_task n (stands_so p) (record c { steps = suc c.steps }))
+
 pub changed_other : {A : Type 0} (n k : ℕ) (f : A → A) (xs : List A) → ¬ (k ≡ n) → slice_get (changed n f xs) k ≡ slice_get xs k
 changed_other n k f [] other = refl
 changed_other zero zero f (x ∷ xs) other = absurd (other refl)
@@ -122,11 +133,13 @@ module _ (plan : Plan) (code : Flat) where
   abbrev K : Controls Spot
   K = flat_controls plan code
 
-  pub self_seen : (i : ℕ) (ts : List (TaskAt Spot)) (os : List Own) (shared : Shared) → AlikeTasks (λ s. ⊥) (Unit {0}) (λ k. ⊥) i (seen_from plan K i ts os shared) (seen_from plan K i ts os shared)
+  pub self_seen : (i : ℕ) (ts : List (TaskAt Spot)) (os : List Own) (shared : Shared) → AlikeTasks (λ s. ⊥) (Unit {0}) (λ k. ⊥) (λ k. ⊥) i (seen_from plan K i ts os shared) (seen_from plan K i ts os shared)
   self_seen i [] os shared = tt
   self_seen i (t ∷ ts) os shared = (
     record {
       own = refl;
+      opened = inl refl;
+      moved = λ none. absurd none;
       coming = alike_self ⊥ ⊥ (coming_at code plan t.own.pending (sight_in i os shared) t.control);
       serving = stays (served_all t.own.serving);
     },
@@ -145,30 +158,40 @@ module _ (plan : Plan) (code : Flat) where
   pub moves_unchosen : (c : All Spot) (choices : List ℕ) → moves_at plan K c ≡ moves_at plan K (record c { choices = choices })
   moves_unchosen c choices =
       let d = seen plan K c in
-      moves_there plan K.barrier (λ s. ⊥) (Unit {0}) d (λ none. absurd none) d.tasks c.shared.frames choices c.steps (λ all object. unchosen_from d choices 1 (entries_of plan K.barrier object d) object) (self_seen 0 c.tasks (owns c.tasks) c.shared)
+      moves_there plan K.barrier (λ s. ⊥) (Unit {0}) (λ k. ⊥) d (λ none. absurd none) d.tasks (left_in c.shared) choices c.steps (λ all object. unchosen_from d choices 1 (entries_of plan K.barrier object d) object) (self_seen 0 c.tasks (owns c.tasks) c.shared)
 
-  -- It services no object where its own statements go on.
+  -- It runs and services no object where its own statements go on.
+  abbrev ActsFreely : Option Serving → Status → Type 0
+  ActsFreely serving status = IfSome serving (λ s. ⊥) × (status ≡ Running)
+
   module _ (n : ℕ) (d : All Seen) (t : TaskAt Seen) where
-    abbrev ServesNone : Type 0
-    ServesNone = IfSome t.own.serving (λ s. ⊥)
+    abbrev Free : Type 0
+    Free = ActsFreely t.own.serving t.own.status
 
-    usual_acts : (serving : Option Serving) → is_acting (usual plan K.barrier serving t.own.status n t d) ≡ true → IfSome serving (λ s. ⊥)
-    usual_acts None acts = tt
-    usual_acts (Some s) acts = absurd cc
+    usual_acts : (serving : Option Serving) (status : Status) → is_acting (usual plan K.barrier serving status n t d) ≡ true → ActsFreely serving status
+    usual_acts (Some s) status acts = absurd cc
+    usual_acts None Running acts = (tt, refl)
+    usual_acts None Created acts = absurd cc
+    usual_acts None Activating acts = absurd cc
+    usual_acts None Accepting acts = absurd cc
+    usual_acts None Delaying acts = absurd cc
+    usual_acts None Calling acts = absurd cc
+    usual_acts None Completed acts = absurd cc
+    usual_acts None Terminated acts = absurd cc
 
-    once_acts : (withdraw : Option ℕ) → is_acting (at_once plan K.barrier withdraw) ≡ true → ServesNone
+    once_acts : (withdraw : Option ℕ) → is_acting (at_once plan K.barrier withdraw) ≡ true → Free
     once_acts None acts = absurd cc
     once_acts (Some object) acts = absurd cc
 
-    under_acts : (abnormal : Bool) → is_acting (under_way plan K.barrier abnormal n t d) ≡ true → ServesNone
-    under_acts false = usual_acts t.own.serving
+    under_acts : (abnormal : Bool) → is_acting (under_way plan K.barrier abnormal n t d) ≡ true → Free
+    under_acts false = usual_acts t.own.serving t.own.status
     under_acts true = by (Deferred plan K.barrier n t d) refl
       where
-        by : (b : Bool) → Deferred plan K.barrier n t d ≡ b → is_acting (under_way plan K.barrier true n t d) ≡ true → ServesNone
-        by true is = rw is (usual_acts t.own.serving)
+        by : (b : Bool) → Deferred plan K.barrier n t d ≡ b → is_acting (under_way plan K.barrier true n t d) ≡ true → Free
+        by true is = rw is (usual_acts t.own.serving t.own.status)
         by false is = rw is (once_acts t.own.withdraw)
 
-    turn_acts : (status : Status) → is_acting (turn_by plan K.barrier status n t d) ≡ true → ServesNone
+    turn_acts : (status : Status) → is_acting (turn_by plan K.barrier status n t d) ≡ true → Free
     turn_acts Created acts = absurd cc
     turn_acts Running acts = under_acts t.own.abnormal acts
     turn_acts Activating acts = under_acts t.own.abnormal acts
@@ -178,25 +201,24 @@ module _ (plan : Plan) (code : Flat) where
     turn_acts Completed acts = absurd cc
     turn_acts Terminated acts = absurd cc
 
-  acts_from : (n i j : ℕ) (ts : List (TaskAt Spot)) (os : List Own) (shared : Shared) (d : All Seen) (t : TaskAt Spot) → slice_get ts j ≡ Some t → is_acting (turn_at plan K.barrier (slice_get (seen_from plan K i ts os shared) j) n d) ≡ true → IfSome t.own.serving (λ s. ⊥)
+  acts_from : (n i j : ℕ) (ts : List (TaskAt Spot)) (os : List Own) (shared : Shared) (d : All Seen) (t : TaskAt Spot) → slice_get ts j ≡ Some t → is_acting (turn_at plan K.barrier (slice_get (seen_from plan K i ts os shared) j) n d) ≡ true → ActsFreely t.own.serving t.own.status
   acts_from n i j [] os shared d t at acts = absurd cc
   acts_from n i zero (x ∷ ts) os shared d t at acts =
-      subst (λ (y : TaskAt Spot). IfSome y.own.serving (λ s. ⊥)) (same_Some x t at)
+      subst (λ (y : TaskAt Spot). ActsFreely y.own.serving y.own.status) (same_Some x t at)
       (turn_acts n d (seen_task i x os shared) x.own.status acts)
   acts_from n i (suc j) (x ∷ ts) os shared d t at acts = acts_from n (suc i) j ts os shared d t at acts
 
-  -- it goes on from one simple step to the next
-  pub record GoesThere (t : TaskAt Spot) (u : Spot) : Type 0 where
+  -- it goes on from one simple step to the next, where it stands so then
+  pub record GoesThere (t : TaskAt Spot) (p : Part Spot) : Type 0 where
     pub none : t.own.pending ≡ None
     pub services : IfSome t.own.serving (λ s. ⊥)
+    pub runs : t.own.status ≡ Running
     pub here : (s : Sight) → ComesPlainly (coming_at code plan None s t.control)
-    pub there : (s : Sight) → ComesPlainly (coming_at code plan None s u)
+    pub none_there : p.pending ≡ None
+    pub there : (s : Sight) → ComesPlainly (coming_at code plan None s p.control)
 
-  pub serves_none : (n : ℕ) (c : All Spot) (t : TaskAt Spot) → slice_get c.tasks n ≡ Some t → is_acting (turn_in plan code n c) ≡ true → IfSome t.own.serving (λ s. ⊥)
-  serves_none n c t at acts = acts_from n 0 n c.tasks (owns c.tasks) c.shared (seen plan K c) t at acts
-
-  abbrev goes_to : Spot → TaskAt Spot → TaskAt Spot
-  goes_to u t = record t { control = u }
+  pub acts_freely : (n : ℕ) (c : All Spot) (t : TaskAt Spot) → slice_get c.tasks n ≡ Some t → is_acting (turn_in plan code n c) ≡ true → ActsFreely t.own.serving t.own.status
+  acts_freely n c t at acts = acts_from n 0 n c.tasks (owns c.tasks) c.shared (seen plan K c) t at acts
 
   -- objects are idle where a task that is to begin an action runs
   abbrev IfRunning : (Idle : Type 0) → Status → Type 0
@@ -204,7 +226,7 @@ module _ (plan : Plan) (code : Flat) where
 
   module _ (Idle : Type 0) (plain : EndsPlainly code) (os rs : List Own) (sh th : Shared) (of : ℕ) where
     abbrev Alike : ℕ → List (TaskAt Seen) → List (TaskAt Seen) → Type 0
-    Alike i ts us = AlikeTasks (IfRunning Idle) ⊥ (λ k. ¬ (k ≡ of)) i ts us
+    Alike i ts us = AlikeTasks (IfRunning Idle) ⊥ (λ k. ¬ (k ≡ of)) (λ k. k ≡ of) i ts us
 
     -- another task is not to begin an action, or all objects are idle
     abbrev IsOpenTo : ℕ → TaskAt Spot → Type 0
@@ -218,9 +240,11 @@ module _ (plan : Plan) (code : Flat) where
     open_each i [] h = tt
     open_each i (t ∷ ts) h = (h i 0 t (omega arith) refl, open_each (suc i) ts (λ k j u is at. h k (suc j) u (omega (arith, is)) at))
 
-    other_seen : (i : ℕ) (t : TaskAt Spot) → ¬ (i ≡ of) → IsOpenTo i t → moves.AlikeTask (IfRunning Idle) ⊥ (¬ (i ≡ of)) (seen_task i t os sh) (seen_task i t rs th)
+    other_seen : (i : ℕ) (t : TaskAt Spot) → ¬ (i ≡ of) → IsOpenTo i t → moves.AlikeTask (IfRunning Idle) ⊥ (¬ (i ≡ of)) (i ≡ of) (seen_task i t os sh) (seen_task i t rs th)
     other_seen i t other opens = record {
       own = refl;
+      opened = inl refl;
+      moved = λ is. absurd (other is);
       coming = comes_alike (IfRunning Idle t.own.status) (¬ (i ≡ of)) other plan (sight_in i os sh) (sight_in i rs th) code plain t.own.pending t.control (opens other);
       serving = differs other;
     }
@@ -230,29 +254,41 @@ module _ (plan : Plan) (code : Flat) where
     others_seen i [] past opens = tt
     others_seen i (t ∷ ts) past opens = (other_seen i t (λ is. omega (arith, is, past)) opens.0, others_seen (suc i) ts (omega (arith, past)) opens.1)
 
-    pub goes_alike : (Free Other : Type 0) (i : ℕ) (t : TaskAt Spot) (u : Spot) → GoesThere t u → AreAlike Free Other (coming_at code plan t.own.pending (sight_in i os sh) t.control) (coming_at code plan t.own.pending (sight_in i rs th) u)
-    goes_alike Free Other i t u goes =
-        subst (λ p. AreAlike Free Other (coming_at code plan p (sight_in i os sh) t.control) (coming_at code plan p (sight_in i rs th) u)) (sym goes.none)
-        (plainly_alike Free Other (coming_at code plan None (sight_in i os sh) t.control) (coming_at code plan None (sight_in i rs th) u) (goes.here (sight_in i os sh)) (goes.there (sight_in i rs th)))
+    pub goes_alike : (Free Other : Type 0) (i : ℕ) (t : TaskAt Spot) (p : Part Spot) → GoesThere t p → AreAlike Free Other (coming_at code plan t.own.pending (sight_in i os sh) t.control) (coming_at code plan p.pending (sight_in i rs th) p.control)
+    goes_alike Free Other i t p goes =
+        subst (λ x. AreAlike Free Other (coming_at code plan x (sight_in i os sh) t.control) (coming_at code plan p.pending (sight_in i rs th) p.control)) (sym goes.none)
+        (subst (λ x. AreAlike Free Other (coming_at code plan None (sight_in i os sh) t.control) (coming_at code plan x (sight_in i rs th) p.control)) (sym goes.none_there)
+        (plainly_alike Free Other (coming_at code plan None (sight_in i os sh) t.control) (coming_at code plan None (sight_in i rs th) p.control) (goes.here (sight_in i os sh)) (goes.there (sight_in i rs th))))
 
-    own_seen : (i : ℕ) (t : TaskAt Spot) (u : Spot) → GoesThere t u → moves.AlikeTask (IfRunning Idle) ⊥ (¬ (i ≡ of)) (seen_task i t os sh) (seen_task i (goes_to u t) rs th)
-    own_seen i t u goes = record { own = refl; coming = goes_alike (IfRunning Idle t.own.status) (¬ (i ≡ of)) i t u goes; serving = stays goes.services }
+    pub goes_simply : (t : TaskAt Spot) (p : Part Spot) (s : Sight) → GoesThere t p → GoesSimply t.own.status (coming_at code plan t.own.pending s t.control)
+    goes_simply t p s goes =
+        subst (λ x. GoesSimply t.own.status (coming_at code plan x s t.control)) (sym goes.none)
+        (plainly_simply t.own.status (coming_at code plan None s t.control) goes.runs (goes.here s))
 
-    all_seen : (n i : ℕ) (ts : List (TaskAt Spot)) (t : TaskAt Spot) (u : Spot) → i + n ≡ of → slice_get ts n ≡ Some t → GoesThere t u → AreOpen i ts → Alike i (seen_from plan K i ts os sh) (seen_from plan K i (changed n (goes_to u) ts) rs th)
-    all_seen n i [] t u at is goes opens = tt
-    all_seen zero i (x ∷ ts) t u at is goes opens = (
-      own_seen i x u (subst (λ (y : TaskAt Spot). GoesThere y u) (sym (same_Some x t is)) goes),
+    own_seen : (i : ℕ) (t : TaskAt Spot) (p : Part Spot) → i ≡ of → GoesThere t p → moves.AlikeTask (IfRunning Idle) ⊥ (¬ (i ≡ of)) (i ≡ of) (seen_task i t os sh) (seen_task i (stands_so p t) rs th)
+    own_seen i t p is goes = record {
+      own = refl;
+      opened = inr is;
+      moved = λ it. goes_simply t p (sight_in i os sh) goes;
+      coming = goes_alike (IfRunning Idle t.own.status) (¬ (i ≡ of)) i t p goes;
+      serving = stays goes.services;
+    }
+
+    all_seen : (n i : ℕ) (ts : List (TaskAt Spot)) (t : TaskAt Spot) (p : Part Spot) → i + n ≡ of → slice_get ts n ≡ Some t → GoesThere t p → AreOpen i ts → Alike i (seen_from plan K i ts os sh) (seen_from plan K i (changed n (stands_so p) ts) rs th)
+    all_seen n i [] t p at is goes opens = tt
+    all_seen zero i (x ∷ ts) t p at is goes opens = (
+      own_seen i x p (omega (arith, at)) (subst (λ (y : TaskAt Spot). GoesThere y p) (sym (same_Some x t is)) goes),
       others_seen (suc i) ts (omega (arith, at)) opens.1,
     )
-    all_seen (suc n) i (x ∷ ts) t u at is goes opens = (
+    all_seen (suc n) i (x ∷ ts) t p at is goes opens = (
       other_seen i x (λ here. omega (arith, here, at)) opens.0,
-      all_seen n (suc i) ts t u (omega (arith, at)) is goes opens.1,
+      all_seen n (suc i) ts t p (omega (arith, at)) is goes opens.1,
     )
 
   -- its move is still the first one where it has gone on so, and alone where it was alone
-  module _ (plain : EndsPlainly code) (c : All Spot) (n : ℕ) (hinders : HindersNone plan code n c) (t : TaskAt Spot) (u : Spot) (frames : List Frame) (at : slice_get c.tasks n ≡ Some t) (goes : GoesThere t u) where
+  module _ (plain : EndsPlainly code) (c : All Spot) (n : ℕ) (hinders : HindersNone plan code n c) (t : TaskAt Spot) (p : Part Spot) (at : slice_get c.tasks n ≡ Some t) (goes : GoesThere t p) where
     abbrev gone : All Spot
-    gone = with_frames frames (on_control n (λ v. u) (record c { steps = suc c.steps }))
+    gone = gone_on n p c
 
     is_open : HindersNone plan code n c → (k : ℕ) (x : TaskAt Spot) → slice_get c.tasks k ≡ Some x → ¬ (k ≡ n) → (status : Status) → x.own.status ≡ status →
         IsNoStart (coming_at code plan x.own.pending (sight_of k c) x.control) ⊎ (status ≡ Running → AreIdle c)
@@ -266,23 +302,23 @@ module _ (plan : Plan) (code : Flat) where
     is_open (inr alone) k x there other Completed is = inr (λ runs. absurd cc)
     is_open (inr alone) k x there other Terminated is = inr (λ runs. absurd cc)
 
-    alike_gone : AlikeTasks (IfRunning (AreIdle c)) ⊥ (λ k. ¬ (k ≡ n)) 0 (seen plan K c).tasks (seen plan K gone).tasks
+    alike_gone : AlikeTasks (IfRunning (AreIdle c)) ⊥ (λ k. ¬ (k ≡ n)) (λ k. k ≡ n) 0 (seen plan K c).tasks (seen plan K gone).tasks
     alike_gone =
-        all_seen (AreIdle c) plain (owns c.tasks) (owns gone.tasks) c.shared gone.shared n n 0 c.tasks t u (omega arith) at goes
+        all_seen (AreIdle c) plain (owns c.tasks) (owns gone.tasks) c.shared gone.shared n n 0 c.tasks t p (omega arith) at goes
         (open_each (AreIdle c) plain (owns c.tasks) (owns gone.tasks) c.shared gone.shared n 0 c.tasks (λ k j x is there other.
         is_open hinders k x (let same : k ≡ j = omega (arith, is) in ap (slice_get c.tasks) same ∙ there) other x.own.status refl))
 
     pub first_still : (others : List Move) → moves_at plan K c ≡ own_move n ∷ others → (more : List Move) × (moves_at plan K gone ≡ own_move n ∷ more) × (others ≡ [] → more ≡ [])
-    first_still others first = moves.first_still plan K.barrier (IfRunning (AreIdle c)) ⊥ n (seen plan K c) (λ idle. idle refl) (seen plan K gone).tasks frames c.choices (suc c.steps) (λ none. absurd none) alike_gone others first
+    first_still others first = moves.first_still plan K.barrier (IfRunning (AreIdle c)) ⊥ (λ k. k ≡ n) n (seen plan K c) (λ idle. idle refl) (seen plan K gone).tasks (left_in gone.shared) c.choices (suc c.steps) (λ none. absurd none) alike_gone others first
 
     pub acts_still : is_acting (turn_in plan code n c) ≡ is_acting (turn_in plan code n gone)
-    acts_still = acting_there plan K.barrier (IfRunning (AreIdle c)) ⊥ (λ k. ¬ (k ≡ n)) (seen plan K c) (λ idle. idle refl) (seen plan K gone).tasks frames c.choices (suc c.steps) (λ none. absurd none) alike_gone n
+    acts_still = acting_there plan K.barrier (IfRunning (AreIdle c)) ⊥ (λ k. k ≡ n) (λ k. ¬ (k ≡ n)) (seen plan K c) (λ idle. idle refl) (seen plan K gone).tasks (left_in gone.shared) c.choices (suc c.steps) (λ none. absurd none) alike_gone n
 
     -- and it hinders none still
     still_alone : BeginsAlone plan code n c → BeginsAlone plan code n gone
     still_alone alone k x there other runs =
         still_no_start plan code plain (sight_of k c) (sight_of k gone) x.own.pending x.control
-        (alone k x (sym (changed_other n k (goes_to u) c.tasks other) ∙ there) other runs)
+        (alone k x (sym (changed_other n k (stands_so p) c.tasks other) ∙ there) other runs)
 
     hinders_by : HindersNone plan code n c → HindersNone plan code n gone
     hinders_by (inl idle) = inl idle

@@ -35,44 +35,6 @@ use Rattle.aud_tasks.specs.Endings.{is_declaration, is_statement, is_too_long}
 abbrev pub does : Plan → Flat → Limits → Option ℕ → (ℕ → Sight → Result Bool Raise) → ℕ → Pos → Scene → Ended → All Spot → Last → All Spot
 does plan code limits alternative barrier n at s x old l = done (going code) plan barrier limits alternative (asked_last (plain_last l) (loops_of (exit_of l)) at s x) n old
 
--- An ending that concerns the task alone asks for what it does alone.
-
-one : {A : Type 0} (xs : List A) (P : ℕ → Type 0) (go : A → Asked) → ((x : A) (k : ℕ) → P k → IsAlone (go x)) → Takes (length xs) P → IsAlone (with_one xs go)
-one [] P go h fine = absurd fine
-one (x ∷ xs) P go h fine = h x (length xs) fine
-
-two : (xs : List ℤ) (go : ℤ → ℤ → Asked) → ((x y : ℤ) → IsAlone (go x y)) → Takes (length xs) (λ n. Takes n (λ m. Unit {0})) → IsAlone (with_two xs go)
-two [] go h fine = absurd fine
-two (y ∷ []) go h fine = absurd fine
-two (y ∷ x ∷ xs) go h fine = h x y
-
-out_alone : (loops : ℕ) (b : Bool) → IsAlone (if b then goes_out loops None else goes_on 0)
-out_alone loops true = tt
-out_alone loops false = tt
-
-pub alone_asked : (l : Last) (loops : ℕ) (at : Pos) (s : Scene) (o : Operands) → IsOfOne l → LastFine (plain_last l) (counts_of o) → IsAlone (asked_last (plain_last l) loops at s (Reached o))
-alone_asked (Does (Declare up_to again) next) loops at s o of_one fine = one o.integers (λ n. Unit {0}) _ (λ z k h. tt) fine
-alone_asked (Does (DeclareArray t n) next) loops at s o of_one fine = of_one
-alone_asked (Does Null next) loops at s o of_one fine = tt
-alone_asked (Does Assign next) loops at s o of_one fine = one o.targets (λ n. Takes (length o.integers) (λ m. Unit {0})) _ (λ t k h. one o.integers (λ n. Unit {0}) _ (λ z m i. tt) h) fine
-alone_asked (Does Put next) loops at s o of_one fine = tt
-alone_asked (Does (If inside) next) loops at s o of_one fine = one o.booleans (λ n. Unit {0}) _ (λ b k h. tt) fine
-alone_asked (Does (While inside) next) loops at s o of_one fine = one o.booleans (λ n. Unit {0}) _ (λ b k h. tt) fine
-alone_asked (Does (Loop f inside) next) loops at s o of_one fine = two o.integers _ (λ x y. tt) fine
-alone_asked (Does (Exit w) next) loops at s o of_one fine = one o.booleans (λ n. Unit {0}) _ (λ b k h. out_alone loops b) fine
-alone_asked (Does (ending.Raise x) next) loops at s o of_one fine = tt
-alone_asked (Does RaiseAgain next) loops at s o of_one fine = tt
-alone_asked (Does (Block region inside) next) loops at s o of_one fine = tt
-alone_asked (Does (Return w) next) loops at s o of_one fine = tt
-alone_asked (Does (Call unit) next) loops at s o of_one fine = tt
-alone_asked (Does (ReturnValue w) next) loops at s o of_one fine = one o.integers (λ n. Unit {0}) _ (λ z k h. tt) fine
-alone_asked (Does OwnCall next) loops at s o of_one fine = tt
-alone_asked (Concerns a next) loops at s o of_one fine = absurd of_one
-alone_asked (Continues f behind inside) loops at s o of_one fine = tt
-alone_asked (Guards gs) loops at s o of_one fine = tt
-alone_asked (Ends c next) loops at s o of_one fine = absurd of_one
-alone_asked (Leaves n to) loops at s o of_one fine = absurd of_one
-
 not_long : (b : Bool) → not b ≡ false → b ≡ true
 not_long true is = refl
 not_long false is = cc

@@ -1,0 +1,111 @@
+// Steps that a task takes one after the other, without a look at the moves.
+
+use crate::tests::loaded;
+use aud_code::sound_code::SoundCode;
+use aud_expr::operands::Operands;
+use aud_gen::generate;
+use aud_machine::machine::opened;
+use aud_tasks::compiled::Compiled;
+use aud_tasks::run::run;
+use aud_text::limits::STANDARD;
+use aud_typed::program::Program;
+use std::alloc::{AllocError, Global};
+use std::process::Abort;
+use std::test::Fail;
+
+// A program. After the first steps, so many, main takes `ahead` of its steps so.
+struct Shape {
+    what: &'static str,
+    text: &'static [u8],
+    before: u32,
+    ahead: u32,
+}
+
+const SHAPES: [Shape; 9] = [
+    Shape {
+        what: "a call, and the procedure's statements, up to its end",
+        text: b"procedure M is X : Integer := 0; procedure P (N : Integer) is begin X := N; end P; begin P (1); P (2); end M;\n",
+        before: 0,
+        ahead: 3,
+    },
+    Shape {
+        what: "a block, up to its end",
+        text: b"procedure M is X : Integer := 0; begin declare Y : Integer := 1; begin X := Y; end; X := 2; end M;\n",
+        before: 1,
+        ahead: 3,
+    },
+    Shape {
+        what: "a loop from its beginning to its end, and a statement after it",
+        text: b"procedure M is begin for I in 1 .. 2 loop null; end loop; null; end M;\n",
+        before: 0,
+        ahead: 6,
+    },
+    Shape {
+        what: "an exit out of a loop with a parameter",
+        text: b"procedure M is begin for I in 1 .. 9 loop exit when I > 1; end loop; end M;\n",
+        before: 0,
+        ahead: 4,
+    },
+    Shape {
+        what: "a function, up to its end",
+        text: b"procedure M is X : Integer := 0; function F (N : Integer) return Integer is begin return N; end F; begin X := F (1); end M;\n",
+        before: 1,
+        ahead: 2,
+    },
+    Shape {
+        what: "output",
+        text: b"procedure M is begin Put_Line (\"a\"); Put (\"b\"); end M;\n",
+        before: 0,
+        ahead: 2,
+    },
+    Shape {
+        what: "an exception, up to its handler",
+        text: b"procedure M is begin null; raise Constraint_Error; exception when others => null; end M;\n",
+        before: 0,
+        ahead: 2,
+    },
+    Shape {
+        what: "an array, and an element of it",
+        text: b"procedure M is A : array (1 .. 9) of Natural; begin A (1) := 2; end M;\n",
+        before: 0,
+        ahead: 2,
+    },
+    Shape {
+        what: "up to a delay",
+        text: b"procedure M is begin null; delay 1.0; null; end M;\n",
+        before: 0,
+        ahead: 1,
+    },
+];
+
+fn goes_ahead(
+    rt: &impl Abort,
+    alloc: Global,
+    program: &Program,
+    code: &SoundCode,
+    shape: &Shape,
+) -> Result<(), AllocError> {
+    let mut state = opened(alloc, code, program, STANDARD)?;
+    let compiled = Compiled {
+        code,
+        program,
+        limits: STANDARD,
+    };
+    let mut operands = Operands::new(alloc);
+    assert!(rt; state.steps() <= 1_000 && shape.before <= 1_000);
+    let _ = run(&mut state, alloc, compiled, &mut operands, shape.before)?;
+    assert!(rt; state.steps() <= 1_000 && 0 < state.len());
+    let taken = state.run_ahead(code, &program.units, 0, &mut operands, 1_000)?;
+    assert!(rt; taken.steps == shape.ahead, "{}", shape.what);
+    Ok(())
+}
+
+#[test]
+fn takes_steps_of_every_shape_ahead(rt: HostRuntime) -> Result<(), Fail> {
+    for shape in &SHAPES {
+        let program = loaded(rt.alloc(), shape.text)?;
+        let code = generate(rt.alloc(), &program)?;
+        goes_ahead(&rt, rt.alloc(), program.program(), &code, shape)?;
+    }
+    Ok(())
+}
