@@ -115,7 +115,7 @@ bares_alike Free Served Other Moved n (t ∷ ts) [] h = absurd h
 bares_alike Free Served Other Moved n (t ∷ ts) (u ∷ us) h = ap (λ o. o ∷ bares ts) h.0.own ∙ ap (λ os. bare u.own ∷ os) (bares_alike Free Served Other Moved (suc n) ts us h.1)
 
 -- the open frames of the task of a number
-opened_at : ℕ → List (TaskAt Seen) → List Opened
+abbrev pub opened_at : ℕ → List (TaskAt Seen) → List Opened
 opened_at k ts = (slice_index_or (owns ts) k nobody).opened
 
 pub opened_alike : (Free : Status → Type 0) (Served : Type 0) (Other Moved : ℕ → Type 0) (n i k : ℕ) (ts us : List (TaskAt Seen)) → n + i ≡ k → AlikeTasks Free Served Other Moved n ts us → (opened_at i ts ≡ opened_at i us) ⊎ Moved k
@@ -133,11 +133,12 @@ bare_at (suc k) (t ∷ ts) = bare_at k ts
 -- what is left next is a question of the open frames alone
 loops_left : (os : List Opened) (a b : Own) → a.opened ≡ b.opened → (out_of_loops_by os a).opened ≡ (out_of_loops_by os b).opened
 loops_left [] a b is = is
-loops_left (o ∷ os) a b is = by (is_loop o.purpose)
+loops_left (o ∷ os) a b is = by (is_loop o.purpose) (loops_left os (record a { display = o.saved; opened = os }) (record b { display = o.saved; opened = os }) refl)
   where
-    by : (l : Bool) → (if l then out_of_loops_by os (record a { display = o.saved; opened = os }) else a).opened ≡ (if l then out_of_loops_by os (record b { display = o.saved; opened = os }) else b).opened
-    by true = loops_left os (record a { display = o.saved; opened = os }) (record b { display = o.saved; opened = os }) refl
-    by false = is
+    by : (l : Bool) → (out_of_loops_by os (record a { display = o.saved; opened = os })).opened ≡ (out_of_loops_by os (record b { display = o.saved; opened = os })).opened →
+        (if l then out_of_loops_by os (record a { display = o.saved; opened = os }) else a).opened ≡ (if l then out_of_loops_by os (record b { display = o.saved; opened = os }) else b).opened
+    by true inner = inner
+    by false inner = is
 
 construct_there : (a b : Own) → a.opened ≡ b.opened → construct_left a ≡ construct_left b
 construct_there a b is = ap (λ os. (out_of_loops_by os a).opened) is ∙ loops_left b.opened a b is
@@ -355,7 +356,9 @@ module _ (plan : Plan) (barrier : ℕ → Sight → Result Bool Raise) (Free : S
   acts_there Other n k i [] [] at h = refl
   acts_there Other n k i [] (v ∷ vs) at h = absurd h
   acts_there Other n k i (t ∷ ts) [] at h = absurd h
-  acts_there Other n k zero (t ∷ ts) (v ∷ vs) at h = (task_there (Other k) n t v h.0).acts
+  acts_there Other n k zero (t ∷ ts) (v ∷ vs) at h =
+      let same : k ≡ n = omega (arith, at) in
+      (task_there (Other k) n t v (subst (λ m. AlikeTask Free Served (Other k) (Moved m) t v) same h.0)).acts
   acts_there Other n k (suc i) (t ∷ ts) (v ∷ vs) at h = acts_there Other n (suc k) i ts vs (omega (arith, at)) h.1
 
   -- those of a task, in both
