@@ -47,10 +47,10 @@ const SHAPES: [Shape; 9] = [
         ahead: 4,
     },
     Shape {
-        what: "a function, up to its end",
-        text: b"procedure M is X : Integer := 0; function F (N : Integer) return Integer is begin return N; end F; begin X := F (1); end M;\n",
-        before: 1,
-        ahead: 2,
+        what: "a return, up to the procedure's end",
+        text: b"procedure M is procedure P is begin if True then return; end if; null; end P; begin P; end M;\n",
+        before: 0,
+        ahead: 3,
     },
     Shape {
         what: "output",

@@ -8,7 +8,7 @@ use Rattle.aud_code.specs.Places.{loops_of}
 use Rattle.aud_code.specs.View.{exit_of, plain_last}
 use Rattle.aud_sequential.specs.Shown.{plans_of}
 use Rattle.aud_state.specs.Fast.{scene}
-use Rattle.aud_tasks.proofs.StepLaws.Asked.{alone_asked}
+use Rattle.aud_sequential.proofs.Alone.{alone_asked}
 use Rattle.aud_tasks.proofs.Results.{on_ok}
 use Rattle.aud_tasks.proofs.endings.step_alone.Goals as goal
 
