@@ -4,7 +4,7 @@
 use std::alloc::{AllocError, Global};
 
 /// Why a text gives no bytes.
-#[derive(Clone, Copy, Debug)]
+#[derive(Clone, Copy)]
 pub enum TextFault {
     Memory,
     /// A brace stands alone, or what stands in braces or before a line repeats nothing.

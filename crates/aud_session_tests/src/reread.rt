@@ -14,7 +14,7 @@ use std::alloc::Global;
 
 /// How many of the source texts that are sent are programs by the grammar, and how many of these are read otherwise
 /// from their canonical texts.
-#[derive(Clone, Copy, Debug)]
+#[derive(Clone, Copy)]
 pub struct Reread {
     pub programs: usize,
     pub others: usize,

@@ -12,7 +12,7 @@ use crate::repeated::{TextFault, push_lines, push_text};
 use std::alloc::{AllocError, Global};
 
 /// What is sent, and what must be written for it.
-#[derive(Debug, Drop)]
+#[derive(Drop)]
 pub struct Session {
     pub name: String,
     pub sent: Vec<u8>,
@@ -23,7 +23,7 @@ pub struct Session {
 }
 
 /// Why a text has no sessions. Its lines are counted from 1.
-#[derive(Clone, Copy, Debug)]
+#[derive(Clone, Copy)]
 pub enum LineFault {
     Memory,
     /// The line of this number begins with none of these signs, or no session was named before it.

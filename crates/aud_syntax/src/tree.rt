@@ -6,10 +6,16 @@ use aud_text::place::Pos;
 use aud_text::text::Text;
 
 /// An occurrence of an identifier (RM 2.3).
-#[derive(Drop)]
 pub struct Ident {
     pub name: Spelling,
     pub at: Pos,
+}
+
+impl Drop for Ident {
+    fn drop(self) {
+        let Ident { name, at: _ } = self;
+        drop(name);
+    }
 }
 
 /// A whole number (RM 2.4): its value, none where it is larger than any Integer, and where it stands.
@@ -29,10 +35,16 @@ pub struct Real {
 }
 
 /// A string literal (RM 2.6): its characters, and where it stands.
-#[derive(Drop)]
 pub struct Literal {
     pub text: Text,
     pub at: Pos,
+}
+
+impl Drop for Literal {
+    fn drop(self) {
+        let Literal { text, at: _ } = self;
+        drop(text);
+    }
 }
 
 /// A unary adding operator (RM 4.5.4).
@@ -122,7 +134,6 @@ impl Drop for Expression {
 }
 
 /// Relations with the same operator between each two (RM 4.4(2)): the first, the second, and those behind them.
-#[derive(Drop)]
 #[cycle(expression)]
 pub struct Chain {
     pub connective: Connective,
@@ -131,8 +142,22 @@ pub struct Chain {
     pub others: Vec<Relation>,
 }
 
+impl Drop for Chain {
+    #[cycle(expression)]
+    fn drop(self) {
+        let Chain {
+            connective: _,
+            first,
+            second,
+            others,
+        } = self;
+        drop(first);
+        drop(second);
+        drop(others);
+    }
+}
+
 /// A relation (RM 4.4(3)).
-#[derive(Drop)]
 #[cycle(expression)]
 pub enum Relation {
     /// What is compared with nothing.
@@ -141,8 +166,17 @@ pub enum Relation {
     Related(Box<Comparison>),
 }
 
+impl Drop for Relation {
+    #[cycle(expression)]
+    fn drop(self) {
+        match self {
+            Relation::Unrelated(operand) => drop(operand),
+            Relation::Related(comparison) => drop(comparison),
+        }
+    }
+}
+
 /// Two operands that are compared.
-#[derive(Drop)]
 #[cycle(expression)]
 pub struct Comparison {
     pub operator: Relational,
@@ -150,8 +184,20 @@ pub struct Comparison {
     pub right: Simple,
 }
 
+impl Drop for Comparison {
+    #[cycle(expression)]
+    fn drop(self) {
+        let Comparison {
+            operator: _,
+            left,
+            right,
+        } = self;
+        drop(left);
+        drop(right);
+    }
+}
+
 /// Terms that are added (RM 4.4(4)).
-#[derive(Drop)]
 #[cycle(expression)]
 pub struct Simple {
     pub sign: Option<Signed>,
@@ -159,40 +205,87 @@ pub struct Simple {
     pub rest: Vec<Added>,
 }
 
+impl Drop for Simple {
+    #[cycle(expression)]
+    fn drop(self) {
+        let Simple {
+            sign: _,
+            first,
+            rest,
+        } = self;
+        drop(first);
+        drop(rest);
+    }
+}
+
 /// A further term.
-#[derive(Drop)]
 #[cycle(expression)]
 pub struct Added {
     pub operator: Adding,
     pub term: Term,
 }
 
+impl Drop for Added {
+    #[cycle(expression)]
+    fn drop(self) {
+        let Added { operator: _, term } = self;
+        drop(term);
+    }
+}
+
 /// Factors that are multiplied (RM 4.4(5)).
-#[derive(Drop)]
 #[cycle(expression)]
 pub struct Term {
     pub first: Factor,
     pub rest: Vec<Multiplied>,
 }
 
+impl Drop for Term {
+    #[cycle(expression)]
+    fn drop(self) {
+        let Term { first, rest } = self;
+        drop(first);
+        drop(rest);
+    }
+}
+
 /// A further factor.
-#[derive(Drop)]
 #[cycle(expression)]
 pub struct Multiplied {
     pub operator: Multiplying,
     pub factor: Factor,
 }
 
+impl Drop for Multiplied {
+    #[cycle(expression)]
+    fn drop(self) {
+        let Multiplied {
+            operator: _,
+            factor,
+        } = self;
+        drop(factor);
+    }
+}
+
 /// A primary with the operator before it (RM 4.4(6)).
-#[derive(Drop)]
 #[cycle(expression)]
 pub struct Factor {
     pub operator: Option<Operator>,
     pub primary: Primary,
 }
 
+impl Drop for Factor {
+    #[cycle(expression)]
+    fn drop(self) {
+        let Factor {
+            operator: _,
+            primary,
+        } = self;
+        drop(primary);
+    }
+}
+
 /// A primary (RM 4.4(7)).
-#[derive(Drop)]
 #[cycle(expression)]
 pub enum Primary {
     Integer(Number),
@@ -202,6 +295,23 @@ pub enum Primary {
     Attribute(Box<Name>, Ident, Option<Box<Expression>>),
     /// An expression in parentheses, and where they open.
     Group(Pos, Box<Expression>),
+}
+
+impl Drop for Primary {
+    #[cycle(expression)]
+    fn drop(self) {
+        match self {
+            Primary::Integer(_) => {}
+            Primary::Text(literal) => drop(literal),
+            Primary::Name(name) => drop(name),
+            Primary::Attribute(prefix, designator, argument) => {
+                drop(prefix);
+                drop(designator);
+                drop(argument);
+            }
+            Primary::Group(_, inner) => drop(inner),
+        }
+    }
 }
 
 /// A name (RM 4.1): its first part, and those behind points.
@@ -221,11 +331,19 @@ impl Drop for Name {
 }
 
 /// An identifier of a name, and the arguments in the parentheses behind it.
-#[derive(Drop)]
 #[cycle(expression)]
 pub struct NamePart {
     pub ident: Ident,
     pub args: Vec<Expression>,
+}
+
+impl Drop for NamePart {
+    #[cycle(expression)]
+    fn drop(self) {
+        let NamePart { ident, args } = self;
+        drop(ident);
+        drop(args);
+    }
 }
 
 /// The names of a declaration: the first, and those behind it (RM 3.3.1).
@@ -261,11 +379,22 @@ pub enum Mode {
 }
 
 /// Formal parameters of one mode and subtype (RM 6.1).
-#[derive(Drop)]
 pub struct Formal {
     pub names: Identifiers,
     pub mode: Mode,
     pub subtype: Ident,
+}
+
+impl Drop for Formal {
+    fn drop(self) {
+        let Formal {
+            names,
+            mode: _,
+            subtype,
+        } = self;
+        drop(names);
+        drop(subtype);
+    }
 }
 
 /// A declaration (RM 3.1).
@@ -315,7 +444,6 @@ impl Drop for Declaration {
 }
 
 /// A procedure and its body (RM 6.3): where its `procedure` stands, its name, its formal parameters, and its declarations.
-#[derive(Drop)]
 #[cycle(statement)]
 pub struct ProcedureDeclaration {
     pub at: Pos,
@@ -323,6 +451,23 @@ pub struct ProcedureDeclaration {
     pub formals: Vec<Formal>,
     pub declarations: Vec<Declaration>,
     pub body: Body,
+}
+
+impl Drop for ProcedureDeclaration {
+    #[cycle(statement)]
+    fn drop(self) {
+        let ProcedureDeclaration {
+            at: _,
+            name,
+            formals,
+            declarations,
+            body,
+        } = self;
+        drop(name);
+        drop(formals);
+        drop(declarations);
+        drop(body);
+    }
 }
 
 /// A task or a task type (RM 9.1): where its `task` stands, which it is, its name, and its definition, if it has one.
@@ -335,27 +480,55 @@ pub struct TaskDeclaration {
 }
 
 /// What stands in the declaration of a task behind `is` (RM 9.1(4)): its entries, and the name behind `end`.
-#[derive(Drop)]
 pub struct TaskDefinition {
     pub entries: Vec<EntryDeclaration>,
     pub end_name: Option<Ident>,
 }
 
+impl Drop for TaskDefinition {
+    fn drop(self) {
+        let TaskDefinition { entries, end_name } = self;
+        drop(entries);
+        drop(end_name);
+    }
+}
+
 /// An entry (RM 9.5.2(2)): its name and its formal parameters.
-#[derive(Drop)]
 pub struct EntryDeclaration {
     pub name: Ident,
     pub formals: Vec<Formal>,
 }
 
+impl Drop for EntryDeclaration {
+    fn drop(self) {
+        let EntryDeclaration { name, formals } = self;
+        drop(name);
+        drop(formals);
+    }
+}
+
 /// The body of a task or a task type (RM 9.1(6)): where its `task` stands, its name, and its declarations.
-#[derive(Drop)]
 #[cycle(statement)]
 pub struct TaskBody {
     pub at: Pos,
     pub name: Ident,
     pub declarations: Vec<Declaration>,
     pub body: Body,
+}
+
+impl Drop for TaskBody {
+    #[cycle(statement)]
+    fn drop(self) {
+        let TaskBody {
+            at: _,
+            name,
+            declarations,
+            body,
+        } = self;
+        drop(name);
+        drop(declarations);
+        drop(body);
+    }
 }
 
 /// A protected object (RM 9.4): where its `protected` stands, its name, its operations, what stands behind `private`, if that
@@ -370,7 +543,6 @@ pub struct ProtectedDeclaration {
 }
 
 /// What a protected object does for others (RM 9.4(5)): its name, and its formal parameters.
-#[derive(Drop)]
 pub enum Operation {
     Entry(EntryDeclaration),
     Procedure(Ident, Vec<Formal>),
@@ -378,17 +550,45 @@ pub enum Operation {
     Function(Ident, Vec<Formal>, Ident),
 }
 
+impl Drop for Operation {
+    fn drop(self) {
+        match self {
+            Operation::Entry(entry) => drop(entry),
+            Operation::Procedure(name, formals) => {
+                drop(name);
+                drop(formals);
+            }
+            Operation::Function(name, formals, subtype) => {
+                drop(name);
+                drop(formals);
+                drop(subtype);
+            }
+        }
+    }
+}
+
 /// What stands in a protected object behind `private` (RM 9.4(6)).
-#[derive(Drop)]
 pub enum PrivateItem {
     Operation(Operation),
     /// Components, their subtype and their initial value.
     Components(Identifiers, Ident, Option<Expression>),
 }
 
+impl Drop for PrivateItem {
+    fn drop(self) {
+        match self {
+            PrivateItem::Operation(operation) => drop(operation),
+            PrivateItem::Components(names, subtype, value) => {
+                drop(names);
+                drop(subtype);
+                drop(value);
+            }
+        }
+    }
+}
+
 /// The body of a protected object (RM 9.4(7)): where its `protected` stands, its name, the bodies of its operations, and the
 /// name behind `end`.
-#[derive(Drop)]
 #[cycle(statement)]
 pub struct ProtectedBody {
     pub at: Pos,
@@ -397,8 +597,22 @@ pub struct ProtectedBody {
     pub end_name: Option<Ident>,
 }
 
+impl Drop for ProtectedBody {
+    #[cycle(statement)]
+    fn drop(self) {
+        let ProtectedBody {
+            at: _,
+            name,
+            bodies,
+            end_name,
+        } = self;
+        drop(name);
+        drop(bodies);
+        drop(end_name);
+    }
+}
+
 /// The body of an operation (RM 9.4(8)): where its first word stands, its name, its formal parameters, and its declarations.
-#[derive(Drop)]
 #[cycle(statement)]
 pub struct OperationBody {
     pub kind: OperationKind,
@@ -409,14 +623,42 @@ pub struct OperationBody {
     pub body: Body,
 }
 
+impl Drop for OperationBody {
+    #[cycle(statement)]
+    fn drop(self) {
+        let OperationBody {
+            kind,
+            at: _,
+            name,
+            formals,
+            declarations,
+            body,
+        } = self;
+        drop(kind);
+        drop(name);
+        drop(formals);
+        drop(declarations);
+        drop(body);
+    }
+}
+
 /// Of which operation a body is (RM 9.4(8)).
-#[derive(Drop)]
 pub enum OperationKind {
     /// Of an entry with this barrier (RM 9.5.2(7)).
     Entry(Expression),
     Procedure,
     /// Of a function whose value has this subtype.
     Function(Ident),
+}
+
+impl Drop for OperationKind {
+    fn drop(self) {
+        match self {
+            OperationKind::Entry(barrier) => drop(barrier),
+            OperationKind::Procedure => {}
+            OperationKind::Function(subtype) => drop(subtype),
+        }
+    }
 }
 
 /// A statement (RM 5.1).
@@ -473,16 +715,26 @@ impl Drop for Statement {
 }
 
 /// An abort statement (RM 9.8): where its `abort` stands, and the tasks that it names.
-#[derive(Drop)]
 pub struct AbortStatement {
     pub at: Pos,
     pub first: Name,
     pub others: Vec<Name>,
 }
 
+impl Drop for AbortStatement {
+    fn drop(self) {
+        let AbortStatement {
+            at: _,
+            first,
+            others,
+        } = self;
+        drop(first);
+        drop(others);
+    }
+}
+
 /// An if statement (RM 5.3): what stands behind `if`, what behind each `elsif`, and the statements behind `else`, of which
 /// there are none where there is no `else`.
-#[derive(Drop)]
 #[cycle(statement)]
 pub struct IfStatement {
     pub first: Arm,
@@ -490,8 +742,21 @@ pub struct IfStatement {
     pub otherwise: Vec<Statement>,
 }
 
+impl Drop for IfStatement {
+    #[cycle(statement)]
+    fn drop(self) {
+        let IfStatement {
+            first,
+            others,
+            otherwise,
+        } = self;
+        drop(first);
+        drop(others);
+        drop(otherwise);
+    }
+}
+
 /// A condition, where its `if` or `elsif` stands, and the statements behind its `then`.
-#[derive(Drop)]
 #[cycle(statement)]
 pub struct Arm {
     pub at: Pos,
@@ -499,9 +764,21 @@ pub struct Arm {
     pub statements: Statements,
 }
 
+impl Drop for Arm {
+    #[cycle(statement)]
+    fn drop(self) {
+        let Arm {
+            at: _,
+            condition,
+            statements,
+        } = self;
+        drop(condition);
+        drop(statements);
+    }
+}
+
 /// A loop statement (RM 5.5): its name, where its first word behind that stands, its statements, the name behind `end loop`,
 /// and where its semicolon stands.
-#[derive(Drop)]
 #[cycle(statement)]
 pub struct LoopStatement {
     pub label: Option<Ident>,
@@ -512,8 +789,25 @@ pub struct LoopStatement {
     pub semicolon: Pos,
 }
 
+impl Drop for LoopStatement {
+    #[cycle(statement)]
+    fn drop(self) {
+        let LoopStatement {
+            label,
+            at: _,
+            iteration,
+            statements,
+            name,
+            semicolon: _,
+        } = self;
+        drop(label);
+        drop(iteration);
+        drop(statements);
+        drop(name);
+    }
+}
+
 /// How often a loop is gone through (RM 5.5(3)).
-#[derive(Drop)]
 pub enum Iteration {
     /// There is no iteration scheme.
     Forever,
@@ -523,8 +817,17 @@ pub enum Iteration {
     For(LoopParameter),
 }
 
+impl Drop for Iteration {
+    fn drop(self) {
+        match self {
+            Iteration::Forever => {}
+            Iteration::While(condition) => drop(condition),
+            Iteration::For(parameter) => drop(parameter),
+        }
+    }
+}
+
 /// The parameter of a for loop (RM 5.5(4)), whether its values come in reverse, and their bounds.
-#[derive(Drop)]
 pub struct LoopParameter {
     pub name: Ident,
     pub reverse: bool,
@@ -532,9 +835,22 @@ pub struct LoopParameter {
     pub high: Simple,
 }
 
+impl Drop for LoopParameter {
+    fn drop(self) {
+        let LoopParameter {
+            name,
+            reverse: _,
+            low,
+            high,
+        } = self;
+        drop(name);
+        drop(low);
+        drop(high);
+    }
+}
+
 /// A block statement (RM 5.6): its name, where its first word behind that stands, whether that is `declare`, and the
 /// declarations behind it.
-#[derive(Drop)]
 #[cycle(statement)]
 pub struct BlockStatement {
     pub label: Option<Ident>,
@@ -544,9 +860,24 @@ pub struct BlockStatement {
     pub body: Body,
 }
 
+impl Drop for BlockStatement {
+    #[cycle(statement)]
+    fn drop(self) {
+        let BlockStatement {
+            label,
+            at: _,
+            declare: _,
+            declarations,
+            body,
+        } = self;
+        drop(label);
+        drop(declarations);
+        drop(body);
+    }
+}
+
 /// An accept statement (RM 9.5.2(3)): where its `accept` stands, its entry, its formal parameters, and what is done, if anything
 /// is, with `do` in place of `begin`.
-#[derive(Drop)]
 #[cycle(statement)]
 pub struct AcceptStatement {
     pub at: Pos,
@@ -555,17 +886,39 @@ pub struct AcceptStatement {
     pub doing: Option<Box<Body>>,
 }
 
+impl Drop for AcceptStatement {
+    #[cycle(statement)]
+    fn drop(self) {
+        let AcceptStatement {
+            at: _,
+            name,
+            formals,
+            doing,
+        } = self;
+        drop(name);
+        drop(formals);
+        drop(doing);
+    }
+}
+
 /// A delay statement (RM 9.6), and where its `delay` stands.
-#[derive(Drop)]
 pub enum Delay {
     Seconds(Pos, Real),
     /// Duration of an expression.
     Duration(Pos, Expression),
 }
 
+impl Drop for Delay {
+    fn drop(self) {
+        match self {
+            Delay::Seconds(_, _) => {}
+            Delay::Duration(_, value) => drop(value),
+        }
+    }
+}
+
 /// A selective accept (RM 9.7.1): where its `select` stands, its alternatives, and the statements behind `else`, of which there
 /// are none where there is no `else`.
-#[derive(Drop)]
 #[cycle(statement)]
 pub struct SelectStatement {
     pub at: Pos,
@@ -574,16 +927,38 @@ pub struct SelectStatement {
     pub otherwise: Vec<Statement>,
 }
 
+impl Drop for SelectStatement {
+    #[cycle(statement)]
+    fn drop(self) {
+        let SelectStatement {
+            at: _,
+            first,
+            others,
+            otherwise,
+        } = self;
+        drop(first);
+        drop(others);
+        drop(otherwise);
+    }
+}
+
 /// An alternative behind its guard, if it has one (RM 9.7.1(2)).
-#[derive(Drop)]
 #[cycle(statement)]
 pub struct Guarded {
     pub guard: Option<Expression>,
     pub alternative: Alternative,
 }
 
+impl Drop for Guarded {
+    #[cycle(statement)]
+    fn drop(self) {
+        let Guarded { guard, alternative } = self;
+        drop(guard);
+        drop(alternative);
+    }
+}
+
 /// What is waited for, and the statements behind it (RM 9.7.1(3)).
-#[derive(Drop)]
 #[cycle(statement)]
 pub enum Alternative {
     Accept(AcceptStatement, Vec<Statement>),
@@ -591,9 +966,25 @@ pub enum Alternative {
     Terminate,
 }
 
+impl Drop for Alternative {
+    #[cycle(statement)]
+    fn drop(self) {
+        match self {
+            Alternative::Accept(accept, behind) => {
+                drop(accept);
+                drop(behind);
+            }
+            Alternative::Delay(delay, behind) => {
+                drop(delay);
+                drop(behind);
+            }
+            Alternative::Terminate => {}
+        }
+    }
+}
+
 /// A timed or a conditional entry call (RM 9.7.2, 9.7.3): where its `select` stands, the call, the statements behind it, and what
 /// is done in place of it.
-#[derive(Drop)]
 #[cycle(statement)]
 pub struct SelectedCall {
     pub at: Pos,
@@ -602,12 +993,39 @@ pub struct SelectedCall {
     pub otherwise: Otherwise,
 }
 
+impl Drop for SelectedCall {
+    #[cycle(statement)]
+    fn drop(self) {
+        let SelectedCall {
+            at: _,
+            call,
+            behind,
+            otherwise,
+        } = self;
+        drop(call);
+        drop(behind);
+        drop(otherwise);
+    }
+}
+
 /// What is done in place of an entry call: statements behind a delay, or at once.
-#[derive(Drop)]
 #[cycle(statement)]
 pub enum Otherwise {
     Delay(Delay, Vec<Statement>),
     Else(Statements),
+}
+
+impl Drop for Otherwise {
+    #[cycle(statement)]
+    fn drop(self) {
+        match self {
+            Otherwise::Delay(delay, behind) => {
+                drop(delay);
+                drop(behind);
+            }
+            Otherwise::Else(statements) => drop(statements),
+        }
+    }
 }
 
 /// A sequence of statements (RM 5.1(2)): the first, and those behind it.
@@ -649,20 +1067,39 @@ impl Drop for Body {
 }
 
 /// An exception handler (RM 11.2(3)): for what it is, and its statements.
-#[derive(Drop)]
 #[cycle(statement)]
 pub struct Handler {
     pub choices: Choices,
     pub statements: Statements,
 }
 
+impl Drop for Handler {
+    #[cycle(statement)]
+    fn drop(self) {
+        let Handler {
+            choices,
+            statements,
+        } = self;
+        drop(choices);
+        drop(statements);
+    }
+}
+
 /// The exceptions for which a handler is (RM 11.2(5)).
-#[derive(Drop)]
 pub enum Choices {
     /// These.
     Named(Identifiers),
     /// All that no handler before it names, and where `others` stands.
     Others(Pos),
+}
+
+impl Drop for Choices {
+    fn drop(self) {
+        match self {
+            Choices::Named(names) => drop(names),
+            Choices::Others(_) => {}
+        }
+    }
 }
 
 /// A context clause for Ada.Text_IO, and where it begins.
