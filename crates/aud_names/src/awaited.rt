@@ -9,7 +9,6 @@ use aud_text::place::Pos;
 
 /// A task or task type whose body is still to come (RM 3.11.1): its name, the numbers of its unit and of its type, and
 /// where the name stands.
-#[derive(Drop)]
 pub struct Awaited {
     pub name: Name,
     pub unit: usize,
@@ -17,12 +16,36 @@ pub struct Awaited {
     pub at: Pos,
 }
 
+// One call wherever it is dropped.
+impl Drop for Awaited {
+    fn drop(self) {
+        let Awaited {
+            name,
+            unit: _,
+            task_type: _,
+            at: _,
+        } = self;
+        drop(name);
+    }
+}
+
 /// A protected object whose body is still to come: its name, its number, and where the name stands.
-#[derive(Drop)]
 pub struct AwaitedObject {
     pub name: Name,
     pub object: usize,
     pub at: Pos,
+}
+
+// One call wherever it is dropped.
+impl Drop for AwaitedObject {
+    fn drop(self) {
+        let AwaitedObject {
+            name,
+            object: _,
+            at: _,
+        } = self;
+        drop(name);
+    }
 }
 
 /// An operation or entry of a protected object whose body is still to come: the number of its unit, and where its name stands.

@@ -6,11 +6,22 @@ ghost use Rattle.aud_names.specs.Names.{entry_in};
 use aud_text::name::Name;
 
 /// An entry of a type of tasks (RM 9.5.2): the number of the type, the entry's name and its own number.
-#[derive(Drop)]
 pub struct EntryName {
     pub task_type: usize,
     pub name: Name,
     pub number: usize,
+}
+
+// One call wherever it is dropped.
+impl Drop for EntryName {
+    fn drop(self) {
+        let EntryName {
+            task_type: _,
+            name,
+            number: _,
+        } = self;
+        drop(name);
+    }
 }
 
 /// The number of the entry of this name of a type of tasks, if these have one.

@@ -15,13 +15,25 @@ use std::marker::Model;
 
 /// The names of a declaration, which are hidden from all visibility until it ends (RM 8.3(16, 17)); of formals
 /// besides theirs that of their procedure.
-#[derive(Drop)]
 pub struct Hidden<'a> {
     own: Option<&'a Ident>,
     first: &'a Ident,
     others: &'a [Ident],
     // The names of the others. In a set, so that the time for a name does not grow with their number.
     set: IndexSet<&'a Name>,
+}
+
+// One call wherever it is dropped.
+impl<'a> Drop for Hidden<'a> {
+    fn drop(self) {
+        let Hidden {
+            own: _,
+            first: _,
+            others: _,
+            set,
+        } = self;
+        drop(set);
+    }
 }
 
 impl<'a> Model for Hidden<'a> {

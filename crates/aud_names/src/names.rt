@@ -140,10 +140,17 @@ pub struct Parameter {
 }
 
 /// A formal parameter with its name.
-#[derive(Drop)]
 pub struct NamedParameter {
     pub name: Name,
     pub parameter: Parameter,
+}
+
+// One call wherever it is dropped.
+impl Drop for NamedParameter {
+    fn drop(self) {
+        let NamedParameter { name, parameter: _ } = self;
+        drop(name);
+    }
 }
 
 /// The procedures that put out texts (RM A.10).
@@ -339,11 +346,22 @@ pub fn regions_of_library<'a>(library: &'a Region) -> Made<Vec<&'a Region>>
 
 /// What is visible at a place, which may stand within a declaration: the innermost region, and those further
 /// out, the next one first. The predefined names are further out still.
-#[derive(Drop)]
 pub struct Scope<'a> {
     innermost: &'a Region,
     outer: &'a [&'a Region],
     hidden: Option<Hidden<'a>>,
+}
+
+// One call wherever it is dropped.
+impl<'a> Drop for Scope<'a> {
+    fn drop(self) {
+        let Scope {
+            innermost: _,
+            outer: _,
+            hidden,
+        } = self;
+        drop(hidden);
+    }
 }
 
 impl<'a> Model for Scope<'a> {

@@ -27,12 +27,24 @@ pub struct Part {
 }
 
 /// What the object of this number declares by a name, which stands at a place.
-#[derive(Drop)]
 pub struct ObjectPart {
     pub object: usize,
     pub name: Name,
     pub at: Pos,
     pub part: Part,
+}
+
+// One call wherever it is dropped.
+impl Drop for ObjectPart {
+    fn drop(self) {
+        let ObjectPart {
+            object: _,
+            name,
+            at: _,
+            part: _,
+        } = self;
+        drop(name);
+    }
 }
 
 /// What an object declares by this name, if these have it.

@@ -103,10 +103,20 @@ pub struct Operation {
 }
 
 /// A task, whose number is in a cell: a variable, or an element of an array, by its index (RM 9.1).
-#[derive(Drop)]
 pub enum TaskName {
     Single(Variable),
     Element(ArrayAt, IntegerExpression),
+}
+
+// What a program is made of has drops of its own, each one call wherever it is dropped; a derived one is proved again in each
+// crate that drops it. What is taken apart elsewhere has none.
+impl Drop for TaskName {
+    fn drop(self) {
+        match self {
+            TaskName::Single(_) => {}
+            TaskName::Element(_, index) => drop(index),
+        }
+    }
 }
 
 /// An operator of a logical expression (RM 4.4(2)): one that evaluates both sides, or a short circuit.
@@ -138,27 +148,51 @@ pub enum BooleanExpression {
 }
 
 /// A value for a place that asks for a subtype.
-#[derive(Drop)]
 pub enum ValueExpression {
     /// Constraint_Error is raised where it is not in the subtype's range (RM 4.6(51)).
     Whole(Subtype, IntegerExpression),
     Truth(BooleanExpression),
 }
 
+impl Drop for ValueExpression {
+    fn drop(self) {
+        match self {
+            ValueExpression::Whole(_, value) => drop(value),
+            ValueExpression::Truth(value) => drop(value),
+        }
+    }
+}
+
 /// What is assigned, with its subtype: a variable, or an element of an array, by its index.
-#[derive(Drop)]
 pub enum Reference {
     Scalar(Variable, Subtype),
     Element(ArrayAt, IntegerExpression, Subtype),
 }
 
+impl Drop for Reference {
+    fn drop(self) {
+        match self {
+            Reference::Scalar(_, _) => {}
+            Reference::Element(_, index, _) => drop(index),
+        }
+    }
+}
+
 /// An argument of a call (RM 6.4.1).
-#[derive(Drop)]
 pub enum Argument {
     /// The value of a formal of mode in.
     ByValue(ValueExpression),
     /// The variable of a formal of this subtype, of mode in out where the flag holds, and else out.
     ByCopy(bool, Subtype, Reference),
+}
+
+impl Drop for Argument {
+    fn drop(self) {
+        match self {
+            Argument::ByValue(value) => drop(value),
+            Argument::ByCopy(_, _, reference) => drop(reference),
+        }
+    }
 }
 
 /// A call of the procedure or function whose unit has this number, with these arguments, and what the value of a function is
@@ -171,10 +205,18 @@ pub struct Calling {
 }
 
 /// Whose entry is called: a task's, or that of the protected object whose number is in the variable (RM 9.5.3).
-#[derive(Drop)]
 pub enum Callee {
     Task(TaskName),
     Object(Variable),
+}
+
+impl Drop for Callee {
+    fn drop(self) {
+        match self {
+            Callee::Task(task) => drop(task),
+            Callee::Object(_) => {}
+        }
+    }
 }
 
 /// A text, which is put out.
@@ -208,21 +250,37 @@ impl Duration {
 }
 
 /// How long is waited (RM 9.6).
-#[derive(Drop)]
 pub enum DelayExpression {
     Fixed(Duration),
     /// This number of seconds, and none where it is negative.
     Seconds(IntegerExpression),
 }
 
+impl Drop for DelayExpression {
+    fn drop(self) {
+        match self {
+            DelayExpression::Fixed(_) => {}
+            DelayExpression::Seconds(seconds) => drop(seconds),
+        }
+    }
+}
+
 /// How an entry is called (RM 9.5.3).
-#[derive(Drop)]
 pub enum CallForm {
     Plain,
     /// It is left where it is not accepted at once (RM 9.7.3).
     Conditional,
     /// It is left after this time (RM 9.7.2).
     Timed(DelayExpression),
+}
+
+impl Drop for CallForm {
+    fn drop(self) {
+        match self {
+            CallForm::Plain | CallForm::Conditional => {}
+            CallForm::Timed(delay) => drop(delay),
+        }
+    }
 }
 
 /// The tasks of one name: a single one, or the elements of an array from its lower bound on (RM 9.1).
@@ -348,7 +406,6 @@ impl Drop for Statement {
 
 /// The condition and statements behind `if`, those behind each `elsif`, and the statements behind `else`, which are none where
 /// there is no `else` (RM 5.3).
-#[derive(Drop)]
 #[cycle(statement)]
 pub struct IfStatement {
     pub first: Arm,
@@ -356,8 +413,21 @@ pub struct IfStatement {
     pub otherwise: Vec<Statement>,
 }
 
+impl Drop for IfStatement {
+    #[cycle(statement)]
+    fn drop(self) {
+        let IfStatement {
+            first,
+            others,
+            otherwise,
+        } = self;
+        drop(first);
+        drop(others);
+        drop(otherwise);
+    }
+}
+
 /// A condition, where its `if` or `elsif` stands, and the statements that are done where it is true.
-#[derive(Drop)]
 #[cycle(statement)]
 pub struct Arm {
     pub at: Pos,
@@ -365,9 +435,21 @@ pub struct Arm {
     pub statements: Statements,
 }
 
+impl Drop for Arm {
+    #[cycle(statement)]
+    fn drop(self) {
+        let Arm {
+            at: _,
+            condition,
+            statements,
+        } = self;
+        drop(condition);
+        drop(statements);
+    }
+}
+
 /// A `for` loop (RM 5.5): where it begins and where its `for` stands, the number of its parameter's table, and whether it goes
 /// from the last value to the first.
-#[derive(Drop)]
 #[cycle(statement)]
 pub struct ForStatement {
     pub at: Pos,
@@ -379,8 +461,25 @@ pub struct ForStatement {
     pub statements: Statements,
 }
 
+impl Drop for ForStatement {
+    #[cycle(statement)]
+    fn drop(self) {
+        let ForStatement {
+            at: _,
+            next_at: _,
+            region: _,
+            backward: _,
+            first,
+            last,
+            statements,
+        } = self;
+        drop(first);
+        drop(last);
+        drop(statements);
+    }
+}
+
 /// A block, with the number of the table of its variables (RM 5.6).
-#[derive(Drop)]
 #[cycle(statement)]
 pub struct BlockStatement {
     pub at: Pos,
@@ -388,9 +487,20 @@ pub struct BlockStatement {
     pub body: Body,
 }
 
+impl Drop for BlockStatement {
+    #[cycle(statement)]
+    fn drop(self) {
+        let BlockStatement {
+            at: _,
+            region: _,
+            body,
+        } = self;
+        drop(body);
+    }
+}
+
 /// A call of the entry of this number (RM 9.5.3); the statements behind the call of a conditional or timed one, and those behind
 /// its `else` or its delay, which are done where the call is left (RM 9.7.2, 9.7.3).
-#[derive(Drop)]
 #[cycle(statement)]
 pub struct EntryCallStatement {
     pub at: Pos,
@@ -402,8 +512,27 @@ pub struct EntryCallStatement {
     pub otherwise: Vec<Statement>,
 }
 
+impl Drop for EntryCallStatement {
+    #[cycle(statement)]
+    fn drop(self) {
+        let EntryCallStatement {
+            at: _,
+            callee,
+            entry: _,
+            arguments,
+            form,
+            after,
+            otherwise,
+        } = self;
+        drop(callee);
+        drop(arguments);
+        drop(form);
+        drop(after);
+        drop(otherwise);
+    }
+}
+
 /// An accept of a call of the entry of this number, and what it does then, if it does something (RM 9.5.2).
-#[derive(Drop)]
 #[cycle(statement)]
 pub struct AcceptStatement {
     pub at: Pos,
@@ -411,16 +540,34 @@ pub struct AcceptStatement {
     pub doing: Option<Doing>,
 }
 
+impl Drop for AcceptStatement {
+    #[cycle(statement)]
+    fn drop(self) {
+        let AcceptStatement {
+            at: _,
+            entry: _,
+            doing,
+        } = self;
+        drop(doing);
+    }
+}
+
 /// What is done in a rendezvous, with the number of the table of the entry's formals (RM 9.5.2).
-#[derive(Drop)]
 #[cycle(statement)]
 pub struct Doing {
     pub region: usize,
     pub body: Body,
 }
 
+impl Drop for Doing {
+    #[cycle(statement)]
+    fn drop(self) {
+        let Doing { region: _, body } = self;
+        drop(body);
+    }
+}
+
 /// A selective accept (RM 9.7.1): its alternatives, and the statements behind `else`, which are none where there is no `else`.
-#[derive(Drop)]
 #[cycle(statement)]
 pub struct SelectStatement {
     pub at: Pos,
@@ -428,8 +575,20 @@ pub struct SelectStatement {
     pub otherwise: Vec<Statement>,
 }
 
+impl Drop for SelectStatement {
+    #[cycle(statement)]
+    fn drop(self) {
+        let SelectStatement {
+            at: _,
+            alternatives,
+            otherwise,
+        } = self;
+        drop(alternatives);
+        drop(otherwise);
+    }
+}
+
 /// An alternative of a selective accept, which is open where its guard is true (RM 9.7.1).
-#[derive(Drop)]
 #[cycle(statement)]
 pub enum Alternative {
     /// An accept, and the statements behind it.
@@ -449,8 +608,34 @@ pub enum Alternative {
     },
 }
 
+impl Drop for Alternative {
+    #[cycle(statement)]
+    fn drop(self) {
+        match self {
+            Alternative::Accept {
+                guard,
+                accept,
+                after,
+            } => {
+                drop(guard);
+                drop(accept);
+                drop(after);
+            }
+            Alternative::Delay {
+                guard,
+                delay,
+                after,
+            } => {
+                drop(guard);
+                drop(delay);
+                drop(after);
+            }
+            Alternative::Terminate { guard } => drop(guard),
+        }
+    }
+}
+
 /// Declarations, a `begin`, statements and their handlers, and an `end` (RM 11.2).
-#[derive(Drop)]
 #[cycle(statement)]
 pub struct Body {
     pub declarations: Vec<Statement>,
@@ -464,13 +649,42 @@ pub struct Body {
     pub end: Pos,
 }
 
+impl Drop for Body {
+    #[cycle(statement)]
+    fn drop(self) {
+        let Body {
+            declarations,
+            begin: _,
+            activates: _,
+            statements,
+            handlers,
+            end: _,
+        } = self;
+        drop(declarations);
+        drop(statements);
+        drop(handlers);
+    }
+}
+
 /// What is done for these exceptions, or for all others where the flag holds (RM 11.2).
-#[derive(Drop)]
 #[cycle(statement)]
 pub struct Handler {
     pub others: bool,
     pub choices: Vec<Exception>,
     pub statements: Statements,
+}
+
+impl Drop for Handler {
+    #[cycle(statement)]
+    fn drop(self) {
+        let Handler {
+            others: _,
+            choices,
+            statements,
+        } = self;
+        drop(choices);
+        drop(statements);
+    }
 }
 
 /// A sequence of statements (RM 5.1(2)): the first, and those behind it.
@@ -493,17 +707,22 @@ pub enum Shown {
 }
 
 /// The name of a variable, constant, task or protected object, and how its value is shown.
-#[derive(Drop)]
 pub struct Named {
     pub name: Name,
     pub shown: Shown,
+}
+
+impl Drop for Named {
+    fn drop(self) {
+        let Named { name, shown: _ } = self;
+        drop(name);
+    }
 }
 
 /// A procedure's body (RM 6.3), a task's (RM 9.1), or that of an operation or entry of a protected object (RM 9.4): how many
 /// frames it sees besides its own, the number of the table of its formals and variables, whether it is a function's, and where it
 /// begins. The first variable of a task's body is the task's own number. Around the frame of an operation or entry body is that
 /// of its object: the object's own number, and the components.
-#[derive(Drop)]
 pub struct Unit {
     pub level: usize,
     pub region: usize,
@@ -512,32 +731,71 @@ pub struct Unit {
     pub body: Body,
 }
 
+impl Drop for Unit {
+    fn drop(self) {
+        let Unit {
+            level: _,
+            region: _,
+            is_function: _,
+            at: _,
+            body,
+        } = self;
+        drop(body);
+    }
+}
+
 /// A task type, or the type of a single task: the unit that is its body, and its entries, by their numbers (RM 9.1).
-#[derive(Drop)]
 pub struct TaskType {
     pub unit: usize,
     pub entries: Vec<usize>,
 }
 
+impl Drop for TaskType {
+    fn drop(self) {
+        let TaskType { unit: _, entries } = self;
+        drop(entries);
+    }
+}
+
 /// A declaration of a protected object: its name, and its entries, by their numbers (RM 9.4).
-#[derive(Drop)]
 pub struct ProtectedObject {
     pub name: Name,
     pub entries: Vec<usize>,
 }
 
+impl Drop for ProtectedObject {
+    fn drop(self) {
+        let ProtectedObject { name, entries } = self;
+        drop(name);
+        drop(entries);
+    }
+}
+
 /// An entry of a task, which has no body, or of a protected object (RM 9.5.2).
-#[derive(Drop)]
 pub struct Entry {
     pub name: Name,
     pub body: Option<EntryBody>,
 }
 
+impl Drop for Entry {
+    fn drop(self) {
+        let Entry { name, body } = self;
+        drop(name);
+        drop(body);
+    }
+}
+
 /// The unit that is the body of a protected entry, and its barrier (RM 9.5.2(7)).
-#[derive(Drop)]
 pub struct EntryBody {
     pub unit: usize,
     pub barrier: BooleanExpression,
+}
+
+impl Drop for EntryBody {
+    fn drop(self) {
+        let EntryBody { unit: _, barrier } = self;
+        drop(barrier);
+    }
 }
 
 /// A typed program: its procedures, tasks and protected objects, which have blocks and `for` loops.
