@@ -6,6 +6,7 @@ use Rattle.aud_typed.specs.Tree as tree
 use Rattle.aud_typed.specs.Tree.{For, part_of, nothing, some, body, if_then, while_loop, for_loop}
 use Rattle.aud_typed.specs.declared.program.Connective.{Connective}
 use Rattle.aud_typed.specs.declared.program.Connective.TheVariants.{Logical, AndThen, OrElse}
+use Rattle.aud_typed.specs.declared.program.Statement as memory
 use Rattle.aud_typed.specs.declared.program.Arm.{Arm}
 use Rattle.aud_typed.specs.declared.program.ForStatement.{ForStatement, out-ForStatement}
 use Rattle.aud_typed.specs.declared.program.EntryCallStatement.{EntryCallStatement, out-EntryCallStatement}
@@ -83,6 +84,28 @@ has_statements (some s) = true
 -- a statement of a list: the last one leads to the place next, another one to what stands behind it
 abbrev pub listed_lines : tree.Statement → Bool → (place next : ℕ) → Around → List FlatLine
 listed_lines s is_last place next around = statement_lines s place (if is_last then next else place + statement_size_by flat_step s (ways_count around)) around
+
+-- a statement that holds no others
+abbrev pub IsAlone : memory.Statement → Type 0
+IsAlone (memory.Declare at up_to e) = Unit {0}
+IsAlone (memory.DeclareArray at t n) = Unit {0}
+IsAlone (memory.DeclareTasks at ts) = Unit {0}
+IsAlone (memory.DeclareObject at n es) = Unit {0}
+IsAlone (memory.Activated at) = Unit {0}
+IsAlone (memory.Null at) = Unit {0}
+IsAlone (memory.Assign at r e) = Unit {0}
+IsAlone (memory.Put at t) = Unit {0}
+IsAlone (memory.Exit at n c) = Unit {0}
+IsAlone (memory.Raise at x) = Unit {0}
+IsAlone (memory.RaiseAgain at) = Unit {0}
+IsAlone (memory.Return at) = Unit {0}
+IsAlone (memory.ReturnValue at e) = Unit {0}
+IsAlone (memory.ProcedureCall at c) = Unit {0}
+IsAlone (memory.OwnEntryCall at arguments form) = Unit {0}
+IsAlone (memory.OperationCall at v c) = Unit {0}
+IsAlone (memory.Delay at e) = Unit {0}
+IsAlone (memory.Abort at ts) = Unit {0}
+IsAlone s = ⊥
 
 -- an arm, which leads behind itself where there is more
 abbrev pub arm_lines : Arm → Bool → (place next : ℕ) → Around → List FlatLine

@@ -8,7 +8,7 @@ ghost use Rattle.aud_layout.specs.Written.{flat_step};
 ghost use Rattle.aud_layout.specs.Leading.{around, all_ways};
 ghost use Rattle.aud_gen.specs.Writes.{guard_lines, stub_lines, idle_lines, Writes};
 
-use crate::lengths::statements_length;
+use crate::lengths::behind_statements;
 use crate::writer::{Writer, Written};
 use aud_code::line::{Ending, Guard, Last, Way};
 use aud_layout::sum::sum;
@@ -38,7 +38,7 @@ fn guards(
             choices: Vec::from_slice(alloc, &handler.choices)?,
             to,
         })?;
-        to = sum(to, statements_length(&handler.statements, ways)?)?;
+        to = behind_statements(to, &handler.statements, ways)?;
     }
     Ok(guards)
 }

@@ -16,12 +16,11 @@ ghost use Rattle.aud_gen.specs.Writes.{accept_lines, alone, call_lines, call_ste
 
 use crate::lengths::{
     alternative_length, alternatives_length, call_length, choice_length, delay_length,
-    doing_length, exact, list_length,
+    doing_length, exact, list_length, place_behind,
 };
 use crate::writer::{Writer, Written};
 use aud_code::instruction::Instruction;
 use aud_code::line::{Among, CallKind, Offer};
-use aud_layout::sum::sum;
 use aud_layout::ways::Ways;
 use aud_meaning::state::OpenAccept;
 use aud_typed::program::{
@@ -43,9 +42,9 @@ impl Writer {
         ensures { WritesInside result self.old self.new (around out ways.now) (λ place a.
             call_step call.now place next a) }
     {
-        let step = exact(call_length(call).saturating_add(1))?;
-        let inside = sum(self.place(), step)?;
-        let second = sum(inside, list_length(&call.after, ways.count()?)?)?;
+        let step = call_length(call).saturating_add(1);
+        let inside = place_behind(self.place(), step)?;
+        let second = place_behind(inside, list_length(&call.after, ways.count()?))?;
         let then = part_place(&call.after, inside, next);
         let otherwise = part_place(&call.otherwise, second, next);
         self.write_call(call, then, otherwise, out, ways.within)
@@ -109,9 +108,9 @@ impl Writer {
     {
         let own = self.place();
         let count = ways.count()?;
-        let step = exact(choice_length(&select.alternatives).saturating_add(1))?;
-        let inside = sum(own, step)?;
-        let second = sum(inside, alternatives_length(&select.alternatives, count)?)?;
+        let step = choice_length(&select.alternatives).saturating_add(1);
+        let inside = place_behind(own, step)?;
+        let second = place_behind(inside, alternatives_length(&select.alternatives, count))?;
         let otherwise = part_place(&select.otherwise, second, next);
         let offers = offers(self.alloc(), &select.alternatives, inside, next, count)?;
         self.write_choice(select, own, otherwise, offers, out, ways.within)
@@ -294,7 +293,7 @@ fn offers(
     let mut first = place;
     for alternative in alternatives {
         offers.push(offer(alternative, first, next)?)?;
-        first = sum(first, alternative_length(alternative, ways)?)?;
+        first = place_behind(first, alternative_length(alternative, ways))?;
     }
     Ok(offers)
 }
@@ -305,7 +304,7 @@ fn offer(alternative: &Alternative, place: usize, next: usize) -> Result<Offer, 
 {
     match alternative {
         Alternative::Accept { accept, after, .. } => {
-            let second = sum(place, doing_length(&accept.doing)?)?;
+            let second = place_behind(place, doing_length(&accept.doing))?;
             let behind = part_place(after, second, next);
             let body = doing_place(&accept.doing, place, behind);
             Ok(Offer { behind, body })

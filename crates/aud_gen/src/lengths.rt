@@ -1,4 +1,4 @@
-// How many lines each part of a program becomes. Those of expressions stop at the largest number.
+// How many lines each part of a program becomes: a number that stops at the largest one.
 
 ghost use Rattle.std.specs.Prelude.{◌≡◌, ◌+◌, ◌^◌, ◌-◌, ◌<◌, ℕ, length, IfOk};
 ghost use Rattle.aud_typed.specs.Tree.{part_of};
@@ -14,7 +14,6 @@ ghost use Rattle.aud_layout.specs.Layout.{statement_size_by, part_size_by, handl
 ghost use Rattle.aud_layout.specs.Written.{flat_step};
 ghost use Rattle.aud_gen.specs.Writes.{alone, alternative_size, arm_length, callee_code, choice_code, counted};
 
-use aud_layout::sum::sum;
 use aud_typed::program::{
     Alternative, Argument, Arm, BlockStatement, Body, BooleanExpression, CallForm, Callee, Calling,
     DelayExpression, Doing, EntryCallStatement, ForStatement, Handler, IfStatement,
@@ -314,252 +313,245 @@ pub fn exact(length: usize) -> Result<usize, AllocError>
     }
 }
 
+/// The place behind so many lines.
+///
+/// # Errors
+///
+/// Memory is refused where it or their number has stopped at the largest number.
+pub fn place_behind(place: usize, lines: usize) -> Result<usize, AllocError>
+    ensures same { IfOk result (λ n. n ≡ place + lines) }
+    ensures whole { IfOk result (λ n. n < 2 ^ 64 - 1) }
+{
+    exact(place.saturating_add(lines))
+}
+
+/// The place behind a statement that stands at a place.
+pub fn behind_statement(place: usize, s: &Statement, ways: usize) -> Result<usize, AllocError>
+    ensures { IfOk result (λ n.
+        n ≡ place + statement_size_by flat_step (plain_statement s.now) ways) }
+{
+    place_behind(place, statement_length(s, ways))
+}
+
+/// The same of statements.
+pub fn behind_statements(place: usize, ss: &Statements, ways: usize) -> Result<usize, AllocError>
+    ensures { IfOk result (λ n.
+        n ≡ place + statement_size_by flat_step (statements_in ss.now) ways) }
+{
+    place_behind(place, statements_length(ss, ways))
+}
+
 /// Of a statement, with all that is in it, out of which this number of ways leads: of the loops around it, and out of the body.
 #[cycle(lengths)]
-pub fn statement_length(s: &Statement, ways: usize) -> Result<usize, AllocError>
-    ensures { IfOk result (λ n. n ≡ statement_size_by flat_step (plain_statement s.now) ways) }
+pub fn statement_length(s: &Statement, ways: usize) -> usize
+    ensures { result ≡ counted (statement_size_by flat_step (plain_statement s.now) ways) }
 {
     match s {
-        Statement::Declare(_, _, e) => exact(value_length(e).saturating_add(1)),
-        Statement::DeclareArray(..) => Ok(1),
-        Statement::Null(_) => Ok(1),
+        Statement::Declare(_, _, e) => value_length(e).saturating_add(1),
+        Statement::DeclareArray(..) => 1,
+        Statement::Null(_) => 1,
         Statement::Assign(_, target, e) => {
-            exact(
-                reference_length(target)
-                    .saturating_add(value_length(e))
-                    .saturating_add(1),
-            )
+            reference_length(target)
+                .saturating_add(value_length(e))
+                .saturating_add(1)
         }
-        Statement::Put(_, t) => exact(text_length(t).saturating_add(1)),
+        Statement::Put(_, t) => text_length(t).saturating_add(1),
         Statement::If(branches) => if_length(branches, ways),
         Statement::While(_, condition, body) => {
-            let inside = statements_length(body, sum(ways, 1)?)?;
-            exact(
-                boolean_length(condition)
-                    .saturating_add(inside)
-                    .saturating_add(1),
-            )
+            boolean_length(condition)
+                .saturating_add(statements_length(body, ways.saturating_add(1)))
+                .saturating_add(1)
         }
-        Statement::Loop(body) => statements_length(body, sum(ways, 1)?),
+        Statement::Loop(body) => statements_length(body, ways.saturating_add(1)),
         Statement::For(s) => for_length(s, ways),
-        Statement::Exit(_, _, condition) => { exact(boolean_length(condition).saturating_add(1)) }
-        Statement::Raise(..) => Ok(1),
-        Statement::RaiseAgain(_) => Ok(1),
+        Statement::Exit(_, _, condition) => boolean_length(condition).saturating_add(1),
+        Statement::Raise(..) => 1,
+        Statement::RaiseAgain(_) => 1,
         Statement::Block(block) => block_length(block, ways),
-        Statement::Return(_) => Ok(1),
-        Statement::ReturnValue(_, e) => exact(value_length(e).saturating_add(1)),
-        Statement::ProcedureCall(_, calling) => exact(calling_length(calling).saturating_add(1)),
+        Statement::Return(_) => 1,
+        Statement::ReturnValue(_, e) => value_length(e).saturating_add(1),
+        Statement::ProcedureCall(_, calling) => calling_length(calling).saturating_add(1),
         Statement::OwnEntryCall(_, arguments, form) => {
-            exact(called_length(arguments, form).saturating_add(1))
+            called_length(arguments, form).saturating_add(1)
         }
-        Statement::OperationCall(_, _, calling) => {
-            exact(calling_length(calling).saturating_add(1))
-        }
-        Statement::DeclareTasks(..) => Ok(1),
+        Statement::OperationCall(_, _, calling) => calling_length(calling).saturating_add(1),
+        Statement::DeclareTasks(..) => 1,
         Statement::DeclareObject(_, _, components) => {
-            exact(components_length(components).saturating_add(2))
+            components_length(components).saturating_add(2)
         }
-        Statement::Activated(_) => Ok(1),
+        Statement::Activated(_) => 1,
         Statement::EntryCall(call) => entry_call_length(call, ways),
-        Statement::Delay(_, e) => exact(delay_length(e).saturating_add(1)),
-        Statement::Accept(accept) => sum(doing_length(&accept.doing)?, 1),
+        Statement::Delay(_, e) => delay_length(e).saturating_add(1),
+        Statement::Accept(accept) => doing_length(&accept.doing).saturating_add(1),
         Statement::Select(select) => select_length(select, ways),
-        Statement::Abort(_, tasks) => exact(names_length(tasks).saturating_add(1)),
+        Statement::Abort(_, tasks) => names_length(tasks).saturating_add(1),
     }
 }
 
 // The step of the call, the statements behind it, and those behind its `else` or delay.
 #[cycle(lengths)]
-fn entry_call_length(call: &EntryCallStatement, ways: usize) -> Result<usize, AllocError>
-    ensures { IfOk result (λ n. n ≡ statement_size_by flat_step (entry_call_in call.now) ways) }
+fn entry_call_length(call: &EntryCallStatement, ways: usize) -> usize
+    ensures { result ≡ counted (statement_size_by flat_step (entry_call_in call.now) ways) }
 {
-    let after = list_length(&call.after, ways)?;
-    let otherwise = list_length(&call.otherwise, ways)?;
-    exact(
-        call_length(call)
-            .saturating_add(after)
-            .saturating_add(otherwise)
-            .saturating_add(1),
-    )
+    call_length(call)
+        .saturating_add(list_length(&call.after, ways))
+        .saturating_add(list_length(&call.otherwise, ways))
+        .saturating_add(1)
 }
 
 /// Of what an accept does, if it does something.
 #[cycle(lengths)]
-pub fn doing_length(doing: &Option<Doing>) -> Result<usize, AllocError>
-    ensures { IfOk result (λ n. n ≡ doing_size_by flat_step (doing_in doing.now)) }
+pub fn doing_length(doing: &Option<Doing>) -> usize
+    ensures { result ≡ counted (doing_size_by flat_step (doing_in doing.now)) }
 {
     match doing {
         Some(doing) => body_length(&doing.body, 1),
-        None => Ok(0),
+        None => 0,
     }
 }
 
 // The step of the selective accept, what lies in its alternatives, and the statements behind its `else`.
 #[cycle(lengths)]
-fn select_length(select: &SelectStatement, ways: usize) -> Result<usize, AllocError>
-    ensures { IfOk result (λ n. n ≡ statement_size_by flat_step (select_in select.now) ways) }
+fn select_length(select: &SelectStatement, ways: usize) -> usize
+    ensures { result ≡ counted (statement_size_by flat_step (select_in select.now) ways) }
 {
-    let offered = alternatives_length(&select.alternatives, ways)?;
-    let otherwise = list_length(&select.otherwise, ways)?;
-    exact(
-        choice_length(&select.alternatives)
-            .saturating_add(offered)
-            .saturating_add(otherwise)
-            .saturating_add(1),
-    )
+    choice_length(&select.alternatives)
+        .saturating_add(alternatives_length(&select.alternatives, ways))
+        .saturating_add(list_length(&select.otherwise, ways))
+        .saturating_add(1)
 }
 
 /// Of what lies in alternatives.
 #[cycle(lengths)]
-pub fn alternatives_length(alternatives: &[Alternative], ways: usize) -> Result<usize, AllocError>
-    ensures { IfOk result (λ n.
-        n ≡ offered_size_by flat_step (alternatives_in alternatives.now) ways) }
+pub fn alternatives_length(alternatives: &[Alternative], ways: usize) -> usize
+    ensures { result ≡
+        counted (offered_size_by flat_step (alternatives_in alternatives.now) ways) }
 {
-    let mut total = 0;
+    let mut total: usize = 0;
     for alternative in alternatives {
-        total = sum(total, alternative_length(alternative, ways)?)?;
+        total = total.saturating_add(alternative_length(alternative, ways));
     }
-    Ok(total)
+    total
 }
 
 /// Of what the accept of an alternative does, and the statements behind that.
 #[cycle(lengths)]
-pub fn alternative_length(alternative: &Alternative, ways: usize) -> Result<usize, AllocError>
-    ensures { IfOk result (λ n. n ≡ alternative_size alternative.now ways) }
+pub fn alternative_length(alternative: &Alternative, ways: usize) -> usize
+    ensures { result ≡ counted (alternative_size alternative.now ways) }
 {
     match alternative {
         Alternative::Accept { accept, after, .. } => {
-            sum(doing_length(&accept.doing)?, list_length(after, ways)?)
+            doing_length(&accept.doing).saturating_add(list_length(after, ways))
         }
         Alternative::Delay { after, .. } => list_length(after, ways),
-        Alternative::Terminate { .. } => Ok(0),
+        Alternative::Terminate { .. } => 0,
     }
 }
 
 #[cycle(lengths)]
-fn if_length(s: &IfStatement, ways: usize) -> Result<usize, AllocError>
-    ensures { IfOk result (λ n. n ≡ statement_size_by flat_step (if_in s.now) ways) }
+fn if_length(s: &IfStatement, ways: usize) -> usize
+    ensures { result ≡ counted (statement_size_by flat_step (if_in s.now) ways) }
 {
-    let mut total = sum(
-        arm_length(&s.first, ways)?,
-        list_length(&s.otherwise, ways)?,
-    )?;
+    let mut total = arm_length(&s.first, ways).saturating_add(list_length(&s.otherwise, ways));
     for arm in &s.others {
-        total = sum(total, arm_length(arm, ways)?)?;
+        total = total.saturating_add(arm_length(arm, ways));
     }
-    Ok(total)
+    total
 }
 
 #[cycle(lengths)]
-fn arm_length(arm: &Arm, ways: usize) -> Result<usize, AllocError>
-    ensures { IfOk result (λ n. n ≡ arm_length arm.now ways) }
+fn arm_length(arm: &Arm, ways: usize) -> usize
+    ensures { result ≡ counted (arm_length arm.now ways) }
 {
-    let inside = statements_length(&arm.statements, ways)?;
-    exact(
-        boolean_length(&arm.condition)
-            .saturating_add(inside)
-            .saturating_add(1),
-    )
+    boolean_length(&arm.condition)
+        .saturating_add(statements_length(&arm.statements, ways))
+        .saturating_add(1)
 }
 
 // The bounds and the step of the loop, the step `next`, and its statements.
 #[cycle(lengths)]
-fn for_length(s: &ForStatement, ways: usize) -> Result<usize, AllocError>
-    ensures { IfOk result (λ n. n ≡ statement_size_by flat_step (for_in s.now) ways) }
+fn for_length(s: &ForStatement, ways: usize) -> usize
+    ensures { result ≡ counted (statement_size_by flat_step (for_in s.now) ways) }
 {
-    let inside = statements_length(&s.statements, sum(ways, 1)?)?;
-    exact(
-        integer_length(&s.first)
-            .saturating_add(integer_length(&s.last))
-            .saturating_add(inside)
-            .saturating_add(2),
-    )
+    integer_length(&s.first)
+        .saturating_add(integer_length(&s.last))
+        .saturating_add(statements_length(&s.statements, ways.saturating_add(1)))
+        .saturating_add(2)
 }
 
 // The step of the block, its body, and a line for each way out of it.
 #[cycle(lengths)]
-fn block_length(block: &BlockStatement, ways: usize) -> Result<usize, AllocError>
-    ensures { IfOk result (λ n. n ≡ statement_size_by flat_step (block_in block.now) ways) }
+fn block_length(block: &BlockStatement, ways: usize) -> usize
+    ensures { result ≡ counted (statement_size_by flat_step (block_in block.now) ways) }
 {
-    exact(
-        body_length(&block.body, ways)?
-            .saturating_add(ways)
-            .saturating_add(1),
-    )
+    body_length(&block.body, ways)
+        .saturating_add(ways)
+        .saturating_add(1)
 }
 
 /// Of a body: its declarations and their activation, its statements, the line that guards them, its handlers, and its end.
 #[cycle(lengths)]
-pub fn body_length(body: &Body, ways: usize) -> Result<usize, AllocError>
-    ensures { IfOk result (λ n. n ≡ body_size_by flat_step (body_in body.now) ways) }
+pub fn body_length(body: &Body, ways: usize) -> usize
+    ensures { result ≡ counted (body_size_by flat_step (body_in body.now) ways) }
 {
-    sum(place_of_end(body, 0, ways)?, 1)
+    place_of_end(body, 0, ways).saturating_add(1)
 }
 
 /// The place of a body's end, where the body begins at a place.
 #[cycle(lengths)]
-pub fn place_of_end(body: &Body, place: usize, ways: usize) -> Result<usize, AllocError>
-    ensures { IfOk result (λ n. n ≡ end_place_by flat_step (body_in body.now) place ways) }
+pub fn place_of_end(body: &Body, place: usize, ways: usize) -> usize
+    ensures { result ≡ counted (end_place_by flat_step (body_in body.now) place ways) }
 {
-    let elaborations = elaborations_length(body, ways)?;
-    let statements = statements_length(&body.statements, ways)?;
-    let handlers = handlers_length(&body.handlers, ways)?;
-    exact(
-        place
-            .saturating_add(elaborations)
-            .saturating_add(statements)
-            .saturating_add(handlers)
-            .saturating_add(1),
-    )
+    place
+        .saturating_add(elaborations_length(body, ways))
+        .saturating_add(statements_length(&body.statements, ways))
+        .saturating_add(handlers_length(&body.handlers, ways))
+        .saturating_add(1)
 }
 
 /// Of what a body does before its statements: its declarations, and the activation at its `begin`.
 #[cycle(lengths)]
-pub fn elaborations_length(body: &Body, ways: usize) -> Result<usize, AllocError>
-    ensures { IfOk result (λ n.
-        n ≡ part_size_by flat_step (part_of (elaborations_in body.now)) ways) }
+pub fn elaborations_length(body: &Body, ways: usize) -> usize
+    ensures { result ≡
+        counted (part_size_by flat_step (part_of (elaborations_in body.now)) ways) }
 {
-    let declared = list_length(&body.declarations, ways)?;
+    let declared = list_length(&body.declarations, ways);
     if body.activates {
-        sum(declared, 1)
+        declared.saturating_add(1)
     } else {
-        Ok(declared)
+        declared
     }
 }
 
 /// Of handlers.
 #[cycle(lengths)]
-pub fn handlers_length(handlers: &[Handler], ways: usize) -> Result<usize, AllocError>
-    ensures { IfOk result (λ n.
-        n ≡ handlers_size_by flat_step (handlers_in handlers.now) ways) }
+pub fn handlers_length(handlers: &[Handler], ways: usize) -> usize
+    ensures { result ≡ counted (handlers_size_by flat_step (handlers_in handlers.now) ways) }
 {
-    let mut total = 0;
+    let mut total: usize = 0;
     for handler in handlers {
-        total = sum(total, statements_length(&handler.statements, ways)?)?;
+        total = total.saturating_add(statements_length(&handler.statements, ways));
     }
-    Ok(total)
+    total
 }
 
 /// Of statements.
 #[cycle(lengths)]
-pub fn statements_length(ss: &Statements, ways: usize) -> Result<usize, AllocError>
-    ensures { IfOk result (λ n. n ≡ statement_size_by flat_step (statements_in ss.now) ways) }
+pub fn statements_length(ss: &Statements, ways: usize) -> usize
+    ensures { result ≡ counted (statement_size_by flat_step (statements_in ss.now) ways) }
 {
-    sum(
-        statement_length(&ss.first, ways)?,
-        list_length(&ss.others, ways)?,
-    )
+    statement_length(&ss.first, ways).saturating_add(list_length(&ss.others, ways))
 }
 
 /// Of statements, of which there may be none.
 #[cycle(lengths)]
-pub fn list_length(ss: &[Statement], ways: usize) -> Result<usize, AllocError>
-    ensures { IfOk result (λ n.
-        n ≡ part_size_by flat_step (part_of (plain_statements ss.now)) ways) }
+pub fn list_length(ss: &[Statement], ways: usize) -> usize
+    ensures { result ≡
+        counted (part_size_by flat_step (part_of (plain_statements ss.now)) ways) }
 {
-    let mut total = 0;
+    let mut total: usize = 0;
     for s in ss {
-        total = sum(total, statement_length(s, ways)?)?;
+        total = total.saturating_add(statement_length(s, ways));
     }
-    Ok(total)
+    total
 }

@@ -1,6 +1,7 @@
 // From typed programs to their code.
 #![tactic(auto)]
 
+mod alone;
 mod bodies;
 mod entries;
 mod expressions;

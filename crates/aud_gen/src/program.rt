@@ -10,7 +10,7 @@ ghost use Rattle.aud_gen.specs.Opening.{body_in_type, frames_before, level_in};
 ghost use Rattle.aud_gen.specs.Writes.{unit_lines, units_code, Writes};
 
 use crate::frames::frames;
-use crate::lengths::place_of_end;
+use crate::lengths::{exact, place_of_end};
 use crate::objects::write_barriers;
 use crate::operands::operands;
 use crate::writer::{Writer, Written};
@@ -28,7 +28,7 @@ impl Writer {
         ensures { Writes result self.old self.new
             (unit_lines (body_in body.now) (length self.old)) }
     {
-        let last = place_of_end(body, self.place(), 1)?;
+        let last = exact(place_of_end(body, self.place(), 1))?;
         let ways = Ways::of_body(self.alloc(), None, last);
         self.write_body(body, Construct::Unit, &ways, last, 0, last)
     }

@@ -12,8 +12,8 @@ ghost use Rattle.aud_gen.specs.Writes.{alone, doing_lines, offered_lines};
 
 use crate::entries::{doing_place, part_place};
 use crate::lengths::{
-    boolean_length, doing_length, elaborations_length, exact, integer_length, list_length,
-    place_of_end, statement_length, statements_length,
+    behind_statement, behind_statements, boolean_length, doing_length, elaborations_length, exact,
+    integer_length, list_length, place_behind, place_of_end,
 };
 use crate::writer::{Writer, Written};
 use aud_code::line::{Among, Ending, ForLoop, Last};
@@ -41,37 +41,6 @@ impl Writer {
             statement_lines (plain_statement s.now) place next a) }
     {
         match s {
-            Statement::Declare(at, up_to, e) => {
-                let again = self.place();
-                self.write_value(e)?;
-                let up_to = *up_to;
-                self.end_statement(
-                    Ending::Declare { up_to, again },
-                    next,
-                    *at,
-                    out,
-                    ways.within,
-                )
-            }
-            Statement::DeclareArray(at, subtype, length) => {
-                self.end_statement(
-                    Ending::DeclareArray(*subtype, *length),
-                    next,
-                    *at,
-                    out,
-                    ways.within,
-                )
-            }
-            Statement::Null(at) => { self.end_statement(Ending::Null, next, *at, out, ways.within) }
-            Statement::Assign(at, target, e) => {
-                self.write_reference(target)?;
-                self.write_value(e)?;
-                self.end_statement(Ending::Assign, next, *at, out, ways.within)
-            }
-            Statement::Put(at, t) => {
-                self.write_text(t)?;
-                self.end_statement(Ending::Put, next, *at, out, ways.within)
-            }
             Statement::If(branches) => self.write_if(branches, ways, out, next),
             Statement::While(at, condition, body) => {
                 let place = self.place();
@@ -80,64 +49,28 @@ impl Writer {
             }
             Statement::Loop(body) => self.write_loop(body, ways, out, next, self.place()),
             Statement::For(s) => self.write_for(s, ways, out, next),
-            Statement::Exit(at, further, condition) => {
-                let way = ways.exit(*further, next);
-                self.write_boolean(condition)?;
-                self.end_statement(Ending::Exit(way), next, *at, out, ways.within)
-            }
-            Statement::Raise(at, exception) => {
-                self.end_statement(Ending::Raise(*exception), next, *at, out, ways.within)
-            }
-            Statement::RaiseAgain(at) => {
-                self.end_statement(Ending::RaiseAgain, next, *at, out, ways.within)
-            }
             Statement::Block(block) => self.write_block(block, ways, out, next),
-            Statement::Return(at) => {
-                self.end_statement(Ending::Return(ways.back), next, *at, out, ways.within)
-            }
-            Statement::ReturnValue(at, e) => {
-                self.write_value(e)?;
-                self.end_statement(Ending::ReturnValue(ways.back), next, *at, out, ways.within)
-            }
-            Statement::ProcedureCall(at, calling) => {
-                self.write_calling(calling)?;
-                self.end_statement(Ending::Call(calling.unit), next, *at, out, ways.within)
-            }
-            Statement::OwnEntryCall(at, arguments, form) => {
-                self.write_called(arguments, form)?;
-                self.end_statement(Ending::OwnCall, next, *at, out, ways.within)
-            }
-            Statement::OperationCall(at, object, calling) => {
-                self.write_calling(calling)?;
-                let among = Among::Operation {
-                    object: *object,
-                    unit: calling.unit,
-                };
-                self.concern(among, next, *at, out, ways.within)
-            }
-            Statement::DeclareTasks(at, tasks) => {
-                let tasks = tasks.try_clone(self.alloc())?;
-                self.concern(Among::DeclareTasks(tasks), next, *at, out, ways.within)
-            }
-            Statement::DeclareObject(at, declaration, components) => {
-                self.write_object(components)?;
-                let among = Among::DeclareObject(*declaration);
-                self.concern(among, next, *at, out, ways.within)
-            }
-            Statement::Activated(at) => {
-                self.concern(Among::Activated, next, *at, out, ways.within)
-            }
             Statement::EntryCall(call) => self.write_entry_call(call, ways, out, next),
-            Statement::Delay(at, e) => {
-                self.write_delay(e)?;
-                self.concern(Among::Delay, next, *at, out, ways.within)
-            }
             Statement::Accept(accept) => self.write_accept_statement(accept, ways, out, next),
             Statement::Select(select) => self.write_select(select, ways, out, next),
-            Statement::Abort(at, tasks) => {
-                self.write_names(tasks)?;
-                self.concern(Among::Abort, next, *at, out, ways.within)
-            }
+            Statement::Declare(..)
+            | Statement::DeclareArray(..)
+            | Statement::DeclareTasks(..)
+            | Statement::DeclareObject(..)
+            | Statement::Activated(_)
+            | Statement::Null(_)
+            | Statement::Assign(..)
+            | Statement::Put(..)
+            | Statement::Exit(..)
+            | Statement::Raise(..)
+            | Statement::RaiseAgain(_)
+            | Statement::Return(_)
+            | Statement::ReturnValue(..)
+            | Statement::ProcedureCall(..)
+            | Statement::OwnEntryCall(..)
+            | Statement::OperationCall(..)
+            | Statement::Delay(..)
+            | Statement::Abort(..) => self.write_alone(s, ways, out, next),
         }
     }
 
@@ -187,7 +120,7 @@ impl Writer {
         let then = if is_last {
             next
         } else {
-            sum(self.place(), statement_length(s, ways.count()?)?)?
+            behind_statement(self.place(), s, ways.count()?)?
         };
         self.write_statement(s, ways, out, then)
     }
@@ -212,9 +145,9 @@ impl Writer {
         ensures { WritesInside result self.old self.new (around out ways.now) (λ place a.
             arm_lines arm.now more place next a) }
     {
-        let step = exact(boolean_length(&arm.condition).saturating_add(1))?;
-        let inside = sum(self.place(), step)?;
-        let behind = sum(inside, statements_length(&arm.statements, ways.count()?)?)?;
+        let step = boolean_length(&arm.condition).saturating_add(1);
+        let inside = place_behind(self.place(), step)?;
+        let behind = behind_statements(inside, &arm.statements, ways.count()?)?;
         let otherwise = if more { behind } else { next };
         self.write_boolean(&arm.condition)?;
         self.end_statement(Ending::If(inside), otherwise, arm.at, out, ways.within)?;
@@ -250,8 +183,8 @@ impl Writer {
         ensures { Writes result self.old self.new
             (while_lines at (plain_boolean condition.now) (length self.old) next out within) }
     {
-        let step = exact(boolean_length(condition).saturating_add(1))?;
-        let inside = sum(self.place(), step)?;
+        let step = boolean_length(condition).saturating_add(1);
+        let inside = place_behind(self.place(), step)?;
         self.write_boolean(condition)?;
         self.end_statement(Ending::While(inside), next, at, out, within)
     }
@@ -264,7 +197,7 @@ impl Writer {
     {
         let place = self.place();
         let bounds = integer_length(&s.first).saturating_add(integer_length(&s.last));
-        let again = sum(place, exact(bounds.saturating_add(1))?)?;
+        let again = place_behind(place, bounds.saturating_add(1))?;
         let inner = ways.in_for(self.alloc(), place, next)?;
         self.write_control(s, place, again, out, next, ways.within)?;
         self.write_statements(&s.statements, &inner, out, again)
@@ -315,7 +248,7 @@ impl Writer {
         let region = block.region;
         let place = self.place();
         let inside = sum(place, 1)?;
-        let last = place_of_end(&block.body, inside, ways.count()?)?;
+        let last = exact(place_of_end(&block.body, inside, ways.count()?))?;
         let inner = ways.in_block(self.alloc(), place, last)?;
         let step = Ending::Block { region, inside };
         self.end_statement(step, next, block.at, out, ways.within)?;
@@ -373,7 +306,7 @@ impl Writer {
         match doing {
             None => Ok(()),
             Some(doing) => {
-                let last = place_of_end(&doing.body, self.place(), 1)?;
+                let last = exact(place_of_end(&doing.body, self.place(), 1))?;
                 let ways = Ways::of_body(self.alloc(), Some(opener), last);
                 self.write_body(&doing.body, Construct::Accept, &ways, last, next, out)
             }
@@ -432,7 +365,7 @@ impl Writer {
     {
         match alternative {
             Alternative::Accept { accept, after, .. } => {
-                let second = sum(self.place(), doing_length(&accept.doing)?)?;
+                let second = place_behind(self.place(), doing_length(&accept.doing))?;
                 let behind = part_place(after, second, next);
                 self.write_doing(&accept.doing, opener, behind, out)?;
                 self.write_list(after, ways, out, next)
@@ -458,8 +391,8 @@ impl Writer {
             body_lines construct (body_in body.now) last place next out a) }
     {
         let count = ways.count()?;
-        let begin = sum(self.place(), elaborations_length(body, count)?)?;
-        let guard = sum(begin, statements_length(&body.statements, count)?)?;
+        let begin = place_behind(self.place(), elaborations_length(body, count))?;
+        let guard = behind_statements(begin, &body.statements, count)?;
         self.write_elaborations(body, ways, last, begin)?;
         self.write_statements(&body.statements, ways, guard, last)?;
         self.write_guards(&body.handlers, body.end, last, count, ways.within)?;
@@ -476,10 +409,8 @@ impl Writer {
         if !body.activates {
             return self.write_list(&body.declarations, ways, out, next);
         }
-        let activation = sum(
-            self.place(),
-            list_length(&body.declarations, ways.count()?)?,
-        )?;
+        let declared = list_length(&body.declarations, ways.count()?);
+        let activation = place_behind(self.place(), declared)?;
         self.write_list(&body.declarations, ways, out, activation)?;
         self.concern(Among::Activate, next, body.begin, out, ways.within)
     }

@@ -15,7 +15,7 @@ returns-in_ok-second-in-Accept c = λ ways.
     let d = doing_in (out-AcceptStatement c.in-Accept.accept).doing in
     let p = part_of (plain_statements c.in-Accept.after.items) in
     let alternatives = ap alone c.in-Accept.is ∙ accept_alternative_open c.in-Accept.guard c.in-Accept.accept c.in-Accept.after no_alternatives in
-    let second : c.in_ok-second-in-Accept.second ≡ place + doing_size_by flat_step d = omega (arith, c.in_ok-second-in-Accept.ensures, c.in_ok-doing_length-in-Accept.ensures) in
+    let second : c.in_ok-second-in-Accept.second ≡ place + doing_size_by flat_step d = omega (arith, c.in_ok-second-in-Accept.ensures.same, c.in_ok-second-in-Accept.ensures.whole, c.doing_length.ensures) in
     let behind = c.part_place-behind.ensures ∙ ap (λ xs. part_place (part_of (plain_statements xs)) c.in_ok-second-in-Accept.second next) c.deref.ensures.value ∙ ap (λ (n : ℕ). part_place p n next) second in
     let body = c.doing_place-body.ensures ∙ ap (λ (n : ℕ). doing_place d place n) behind in
     (ap (λ o. parts_from_by flat_step o place next ways) alternatives ∙ ap (λ (n : ℕ). n ∷ []) (sym behind), ap (λ o. bodies_from_by flat_step o place next ways) alternatives ∙ ap (λ (n : ℕ). n ∷ []) (sym body))

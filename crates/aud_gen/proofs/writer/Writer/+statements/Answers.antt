@@ -15,7 +15,7 @@ use Rattle.aud_layout.specs.Instructions.{condition_code}
 use Rattle.aud_layout.specs.Layout.{statement_size_by, part_size_by, doing_size_by, part_place, doing_place, end_place_by, ways_count, in_loop}
 use Rattle.aud_layout.specs.Written.{flat_step}
 use Rattle.aud_layout.specs.Leading.{around}
-use Rattle.aud_gen.specs.Writes.{alone, doing_lines, has_statements, offered_lines, statement_lines, part_lines, guard_lines, handlers_lines, Writes}
+use Rattle.aud_gen.specs.Writes.{alone, counted, doing_lines, has_statements, offered_lines, statement_lines, part_lines, guard_lines, handlers_lines, Writes}
 use Rattle.aud_gen.proofs.Elaborations.{whole_activated}
 use Rattle.aud_gen.proofs.Entering.{list_read, list_writes, offered_read, one_offered, whole_accept, whole_alternative, whole_call, whole_doing, whole_select, whole_waiting, with_offered}
 use Rattle.aud_gen.proofs.Loops.{dropped}
@@ -29,7 +29,7 @@ write_arm-returns t c =
     let a = around c.args.out c.args.ways.now in
     let size = statement_size_by flat_step (statements_in c.args.arm.now.statements) (ways_count a) in
     let inside_is : c.in_ok-inside.inside ≡ suc (length c.args.self.now + length (condition_code (plain_boolean c.args.arm.now.condition))) = omega arith in
-    let behind_is : c.in_ok-behind.behind ≡ c.in_ok-inside.inside + size = c.in_ok-behind.ensures ∙ ap (λ n. c.in_ok-inside.inside + n) (c.in_ok-statements_length.ensures ∙ ap (statement_size_by flat_step (statements_in c.args.arm.now.statements)) c.in_ok-count.ensures) in
+    let behind_is : c.in_ok-behind.behind ≡ c.in_ok-inside.inside + size = c.in_ok-behind.ensures ∙ ap (λ (n : ℕ). c.in_ok-inside.inside + statement_size_by flat_step (statements_in c.args.arm.now.statements) n) c.in_ok-count.ensures in
     let leads : c.if-more.otherwise ≡ (if c.args.more then c.in_ok-inside.inside + size else c.args.next) =
     elim c.if-more.branch [
       | write_arm-then-more w ↦ w.otherwise-is ∙ behind_is ∙ sym (chosen c.args.more (c.in_ok-inside.inside + size) c.args.next w.if-more.true)
@@ -93,19 +93,19 @@ write_body-returns t c =
     let b = out-Body c.args.body.now in
     let w = λ (out : ℕ). around out c.args.ways.now in
     let count = ways_count (w 0) in
-    let counted : c.in_ok-count.count ≡ count = c.in_ok-count.ensures in
+    let many : c.in_ok-count.count ≡ count = c.in_ok-count.ensures in
     let d = part_of (elaborations_in c.args.body.now) in
     let s = statements_in b.statements in
     let begin_is : c.in_ok-begin.begin ≡ length c.args.self.now + part_size_by flat_step d count =
-    omega (arith, c.in_ok-begin.ensures, c.place.ensures, c.in_ok-elaborations_length.ensures ∙ ap (part_size_by flat_step d) counted) in
+    omega (arith, c.in_ok-begin.ensures.same, c.in_ok-begin.ensures.whole, c.place.ensures, c.elaborations_length.ensures ∙ ap (λ (n : ℕ). counted (part_size_by flat_step d n)) many) in
     let guard_is : c.in_ok-guard.guard ≡ c.in_ok-begin.begin + statement_size_by flat_step s count =
-    omega (arith, c.in_ok-guard.ensures, c.in_ok-statements_length.ensures ∙ ap (statement_size_by flat_step s) counted) in
+    c.in_ok-guard.ensures ∙ ap (λ (n : ℕ). c.in_ok-begin.begin + statement_size_by flat_step s n) many in
     let n2 = c.write_statements.new.self in
     let n3 = c.write_guards.new.self in
     whole_body w c.args.ways.now.within count (λ out. refl) c.end.result c.args.construct d s (handlers_in b.handlers.items) b.end c.args.self.now c.write_elaborations.new.self n2 n3 c.write_handlers.new.self c.end.new.self c.in_ok-begin.begin c.in_ok-guard.guard c.args.last c.args.next c.args.out begin_is guard_is
     c.in_ok-write_elaborations.ensures
     c.in_ok-write_statements.ensures
-    (c.in_ok-write_guards.ensures ∙ ap (λ z. n2 ++ guard_lines (handlers_in z) b.end (length n2) c.args.last c.in_ok-count.count c.args.ways.now.within) c.deref.ensures.value ∙ ap (λ n. n2 ++ guard_lines (handlers_in b.handlers.items) b.end (length n2) c.args.last n c.args.ways.now.within) counted)
+    (c.in_ok-write_guards.ensures ∙ ap (λ z. n2 ++ guard_lines (handlers_in z) b.end (length n2) c.args.last c.in_ok-count.count c.args.ways.now.within) c.deref.ensures.value ∙ ap (λ n. n2 ++ guard_lines (handlers_in b.handlers.items) b.end (length n2) c.args.last n c.args.ways.now.within) many)
     (c.in_ok-write_handlers.ensures ∙ ap (λ z. n3 ++ handlers_lines (handlers_in z) (length n3) c.args.last (w c.args.last)) c.deref-2.ensures.value)
     c.end.ensures
 
@@ -114,7 +114,7 @@ write_block-returns t c =
     let o = out-BlockStatement c.args.block.now in
     let b = out-Body o.body in
     let a = around c.args.out c.args.ways.now in
-    let last_is : c.in_ok-last.last ≡ end_place_by flat_step (body_in o.body) c.in_ok-inside.inside (ways_count a) = c.in_ok-last.ensures ∙ ap (end_place_by flat_step (body_in o.body) c.in_ok-inside.inside) c.in_ok-count.ensures in
+    let last_is : c.in_ok-last.last ≡ end_place_by flat_step (body_in o.body) c.in_ok-inside.inside (ways_count a) = omega (arith, c.in_ok-last.ensures.same, c.in_ok-last.ensures.whole, c.place_of_end.ensures ∙ ap (λ (n : ℕ). counted (end_place_by flat_step (body_in o.body) c.in_ok-inside.inside n)) c.in_ok-count.ensures) in
     let inside_is : c.in_ok-inside.inside ≡ length c.args.self.now + 1 = omega (arith, c.in_ok-inside.ensures, c.place-place.ensures) in
     whole_block c.write_stubs.result o.at o.region (body_in o.body) (part_of (elaborations_in o.body)) b.begin (statements_in b.statements) (handlers_in b.handlers.items) b.end c.args.self.now c.end_statement.new.self c.write_body.new.self c.write_stubs.new.self c.place-place.result c.in_ok-inside.inside c.in_ok-last.last c.args.next a (around c.in_ok-last.last c.in_ok-inner.inner) refl c.place-place.ensures inside_is last_is (c.in_ok-inner.ensures c.in_ok-last.last) c.in_ok-end_statement.ensures c.in_ok-write_body.ensures c.write_stubs.ensures
 
@@ -152,8 +152,8 @@ write_elaborations-returns t c =
     let xs = plain_statements b.declarations.items in
     let a = around c.args.out c.args.ways.now in
     let old = c.args.self.now in
-    let listed = c.in_ok-list_length.ensures ∙ ap (λ z. part_size_by flat_step (part_of (plain_statements z)) c.in_ok-count.field-0) c.deref-2.ensures.value ∙ ap (part_size_by flat_step (part_of xs)) c.in_ok-count.ensures in
-    let behind_is : c.in_ok-activation.activation ≡ length old + part_size_by flat_step (part_of xs) (ways_count a) = omega (arith, c.in_ok-activation.ensures, c.place.ensures, listed) in
+    let listed = c.list_length-declared.ensures ∙ ap (λ z. counted (part_size_by flat_step (part_of (plain_statements z)) c.in_ok-count.field-0)) c.deref-2.ensures.value ∙ ap (λ (n : ℕ). counted (part_size_by flat_step (part_of xs) n)) c.in_ok-count.ensures in
+    let behind_is : c.in_ok-activation.activation ≡ length old + part_size_by flat_step (part_of xs) (ways_count a) = omega (arith, c.in_ok-activation.ensures.same, c.in_ok-activation.ensures.whole, c.place.ensures, listed) in
     let declared = c.in_ok-write_list.ensures ∙ ap (λ z. old ++ part_lines (part_of (plain_statements z)) (length old) c.in_ok-activation.activation a) c.deref-3.ensures.value in
     let whole = whole_activated c.concern.result xs b.begin old c.write_list-2.new.self c.concern.new.self c.in_ok-activation.activation c.args.next a behind_is declared c.concern.ensures in
     subst (λ x. Writes c.concern.result old c.concern.new.self (part_lines (part_of (xs ++ activation x b.begin)) (length old) c.args.next a)) (sym c.if-not-body.false) whole
@@ -198,7 +198,8 @@ pub write_doing-returns-in_ok-last-in-Some : goal.write_doing-returns-in_ok-last
 write_doing-returns-in_ok-last-in-Some t c =
     let d = out-Doing c.in-Some.doing in
     let last = c.in_ok-last-in-Some.last in
-    whole_doing c.write_body.result (doing_in c.args.doing.now) d.region (body_in d.body) c.args.opener last c.args.next c.args.out c.args.self.now c.write_body.new.self (around last c.of_body-ways.result) (ap doing_in c.in-Some.is) (c.in_ok-last-in-Some.ensures ∙ ap (λ (n : ℕ). end_place_by flat_step (body_in d.body) n 1) c.place.ensures) (c.of_body-ways.ensures last) c.write_body.ensures
+    let last_is : last ≡ end_place_by flat_step (body_in d.body) (length c.args.self.now) 1 = omega (arith, c.in_ok-last-in-Some.ensures.same, c.in_ok-last-in-Some.ensures.whole, c.place_of_end.ensures ∙ ap (λ (n : ℕ). counted (end_place_by flat_step (body_in d.body) n 1)) c.place.ensures) in
+    whole_doing c.write_body.result (doing_in c.args.doing.now) d.region (body_in d.body) c.args.opener last c.args.next c.args.out c.args.self.now c.write_body.new.self (around last c.of_body-ways.result) (ap doing_in c.in-Some.is) last_is (c.of_body-ways.ensures last) c.write_body.ensures
 
 pub write_doing-returns-in-None : goal.write_doing-returns-in-None
 write_doing-returns-in-None t c =
@@ -240,7 +241,7 @@ write_alternative-returns-in_ok-write_doing-in-Accept t c =
     let d = doing_in s.doing in
     let p = part_of (plain_statements c.in-Accept.after.items) in
     let alternatives = ap alone c.in-Accept.is ∙ accept_alternative_open c.in-Accept.guard c.in-Accept.accept c.in-Accept.after no_alternatives in
-    let second : c.in_ok-second-in-Accept.second ≡ length c.args.self.now + doing_size_by flat_step d = omega (arith, c.in_ok-second-in-Accept.ensures, c.place.ensures, c.in_ok-doing_length-in-Accept.ensures) in
+    let second : c.in_ok-second-in-Accept.second ≡ length c.args.self.now + doing_size_by flat_step d = omega (arith, c.in_ok-second-in-Accept.ensures.same, c.in_ok-second-in-Accept.ensures.whole, c.place.ensures, c.doing_length.ensures) in
     let behind = c.part_place-behind.ensures ∙ ap (λ xs. part_place (part_of (plain_statements xs)) c.in_ok-second-in-Accept.second next) c.deref.ensures.value in
     let mid = c.write_doing.new.self in
     whole_alternative c.write_list.result (alone c.args.alternative.now) (plain_boolean c.in-Accept.guard) s.at s.entry d p c.args.self.now mid c.write_list.new.self c.args.opener c.in_ok-second-in-Accept.second c.part_place-behind.result next a alternatives second behind c.in_ok-write_doing-in-Accept.ensures

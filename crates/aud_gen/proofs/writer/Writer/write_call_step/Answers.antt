@@ -6,7 +6,7 @@ use Rattle.aud_layout.specs.Instructions.{instructions_of}
 use Rattle.aud_layout.specs.Layout.{part_place, part_size_by, ways_count}
 use Rattle.aud_layout.specs.Leading.{around}
 use Rattle.aud_layout.specs.Written.{flat_step}
-use Rattle.aud_gen.specs.Writes.{call_lines}
+use Rattle.aud_gen.specs.Writes.{call_lines, counted}
 use Rattle.aud_gen.proofs.Loops.{on_ok}
 use Rattle.aud_gen.proofs.writer.Writer.write_call_step.Goals as goal
 
@@ -19,9 +19,9 @@ returns c =
     let p = part_of (plain_statements s.after.items) in
     let q = part_of (plain_statements s.otherwise.items) in
     let inside = suc (length old + length (instructions_of (entry_call_in c.args.call.now))) in
-    let inside_is : c.in_ok-inside.inside ≡ inside = omega (arith, c.in_ok-inside.ensures, c.place.ensures, c.in_ok-step.ensures.same, c.in_ok-step.ensures.whole, c.call_length.ensures) in
-    let after = c.in_ok-list_length.ensures ∙ ap (λ xs. part_size_by flat_step (part_of (plain_statements xs)) c.in_ok-count.field-0) c.deref.ensures.value ∙ ap (part_size_by flat_step p) c.in_ok-count.ensures in
-    let second_is : c.in_ok-second.second ≡ inside + part_size_by flat_step p (ways_count a) = omega (arith, c.in_ok-second.ensures, after, inside_is) in
+    let inside_is : c.in_ok-inside.inside ≡ inside = omega (arith, c.in_ok-inside.ensures.same, c.in_ok-inside.ensures.whole, c.place.ensures, c.call_length.ensures) in
+    let after = c.list_length.ensures ∙ ap (λ xs. counted (part_size_by flat_step (part_of (plain_statements xs)) c.in_ok-count.field-0)) c.deref.ensures.value ∙ ap (λ n. counted (part_size_by flat_step p n)) c.in_ok-count.ensures in
+    let second_is : c.in_ok-second.second ≡ inside + part_size_by flat_step p (ways_count a) = omega (arith, c.in_ok-second.ensures.same, c.in_ok-second.ensures.whole, after, inside_is) in
     let then = c.part_place-then.ensures ∙ ap (λ xs. part_place (part_of (plain_statements xs)) c.in_ok-inside.inside next) c.deref-2.ensures.value ∙ ap (λ (n : ℕ). part_place p n next) inside_is in
     let otherwise = c.part_place-otherwise.ensures ∙ ap (λ xs. part_place (part_of (plain_statements xs)) c.in_ok-second.second next) c.deref-3.ensures.value ∙ ap (λ (n : ℕ). part_place q n next) second_is in
     on_ok c.write_call.result (λ h. h
