@@ -16,16 +16,20 @@ use aud_lex::token::{Kind, Token};
 use aud_syntax::tree::Unit;
 use aud_text::limits::LEVELS;
 use std::alloc::Global;
+use thiserror::Error;
 
 /// Why tokens are no program.
-#[derive(Drop)]
+#[derive(Debug, Drop, Error)]
 pub enum SyntaxFault {
     /// Where memory is refused.
+    #[error("out of memory")]
     Memory,
     /// No program goes on with the token of this number, counted from 0, or ends there where it is
     /// the number of tokens.
+    #[error("no program goes on with token {0}")]
     Syntax(usize),
     /// The token of this number opens a level of declarations, statements or parentheses too many.
+    #[error("token {0} opens one level too many")]
     TooDeep(usize),
 }
 

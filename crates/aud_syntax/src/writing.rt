@@ -16,6 +16,7 @@ pub struct Written {
 }
 
 impl Written {
+    /// No text yet.
     pub fn new(alloc: Global) -> Self
         ensures refused { result.refused ≡ false }
         ensures text { result.text.items ≡ [] }
@@ -26,6 +27,7 @@ impl Written {
         }
     }
 
+    /// A byte at its end.
     pub fn push(&mut self, byte: u8)
         ensures { Appends self.old self.new (byte ∷ []) }
     {
@@ -35,6 +37,7 @@ impl Written {
         self.refused = self.text.push(byte).is_err();
     }
 
+    /// Bytes at its end.
     pub fn push_bytes(&mut self, bytes: &[u8])
         ensures { Appends self.old self.new bytes.now }
     {
@@ -44,6 +47,7 @@ impl Written {
         self.refused = self.text.extend_from_slice(bytes).is_err();
     }
 
+    /// A number at its end, in decimal digits.
     pub fn push_decimal(&mut self, number: u64)
         ensures { Appends self.old self.new (decimal number) }
     {
