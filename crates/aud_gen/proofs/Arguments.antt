@@ -1,15 +1,12 @@
 -- The code of the arguments of a call in memory.
-use Rattle.std.proofs.Common.{◌≡◌, ℕ, ◌+◌, ◌<◌, List, [], ◌∷◌, ◌++◌, length, drop, get_or, Bool, ap, sym, ◌∙◌, arith, append_assoc}
-use Rattle.std.specs.Prelude.{map}
-use Rattle.std.proofs.lemmas.List.{length-append, map-append}
+use Rattle.std.proofs.Common.{◌≡◌, ℕ, ◌+◌, ◌<◌, List, [], ◌∷◌, ◌++◌, length, drop, get_or, Bool, ap, ◌∙◌, arith}
+use Rattle.std.proofs.lemmas.List.{length-append}
 use Rattle.aud_typed.specs.declared.program.Argument.{Argument}
 use Rattle.aud_typed.specs.declared.program.Subtype.{Subtype}
 use Rattle.aud_typed.specs.Ties.View.{plain_argument, plain_arguments}
 use Rattle.aud_code.specs.Instruction.{Instruction, PassCopy}
-use Rattle.aud_code.specs.Flat.{FlatLine, instructs}
 use Rattle.aud_layout.specs.Instructions.{copied_code, argument_code, arguments_code}
 use Rattle.aud_gen.proofs.Loops.{dropped}
-use Rattle.aud_gen.proofs.Writing.{Adds}
 
 pub copy_length : (is_in : Bool) (formal : Subtype) (number : ℕ) (found : List Instruction) → length (found ++ (copied_code is_in formal ++ PassCopy number ∷ [])) ≡ length found + length (copied_code is_in formal) + 1
 copy_length is_in formal number found =
@@ -24,17 +21,3 @@ next_argument xs n x h e = ap (λ ys. arguments_code n (plain_arguments ys)) (dr
 
 pub next_argument_length : (xs : List Argument) (n : ℕ) (x : Argument) → n < length xs → x ≡ get_or xs n x → length (arguments_from xs n) ≡ length (argument_code n (plain_argument x)) + length (arguments_from xs (n + 1))
 next_argument_length xs n x h e = ap length (next_argument xs n x h e) ∙ length-append (argument_code n (plain_argument x)) (arguments_from xs (n + 1))
-
--- what was written so far, and what is left to write
-abbrev pub with_arguments : List FlatLine → List Argument → ℕ → List FlatLine
-with_arguments now xs n = now ++ map instructs (arguments_from xs n)
-
-pub one_argument : (xs : List Argument) (n : ℕ) (x : Argument) (now new whole : List FlatLine) → n < length xs → x ≡ get_or xs n x → Adds now new (argument_code n (plain_argument x)) → with_arguments now xs n ≡ whole → with_arguments new xs (n + 1) ≡ whole
-one_argument xs n x now new whole within is h left =
-    let code = argument_code n (plain_argument x) in
-    let rest = arguments_from xs (n + 1) in
-    ap (λ ls. ls ++ map instructs rest) h
-    ∙ append_assoc now (map instructs code) (map instructs rest)
-    ∙ ap (λ ls. now ++ ls) (sym (map-append instructs code rest))
-    ∙ ap (λ js. now ++ map instructs js) (sym (next_argument xs n x within is))
-    ∙ left

@@ -1,7 +1,6 @@
 -- The lines of `for` loops, blocks and bodies in memory.
 use Rattle.std.proofs.Common.{◌≡◌, ℕ, suc, ◌+◌, List, [], ◌∷◌, ◌++◌, length, refl, ap, sym, ◌∙◌, arith, length-append}
-use Rattle.std.specs.Prelude.{Option, Some, None, map, Result, Ok, Err}
-use Rattle.std.specs.declared.alloc.AllocError.{AllocError}
+use Rattle.std.specs.Prelude.{Option, Some, None, map}
 use Rattle.aud_text.specs.declared.place.Pos.{Pos}
 use Rattle.aud_typed.specs.declared.program.ForStatement.{ForStatement, out-ForStatement}
 use Rattle.aud_typed.specs.declared.program.Handler.{Handler}
@@ -22,14 +21,11 @@ use Rattle.aud_layout.specs.Written.{flat_step, written}
 use Rattle.aud_layout.proofs.Flat.Assembly.{assembled_append, its_length}
 use Rattle.aud_layout.proofs.Standing.Sizes.{count-block}
 use Rattle.aud_layout.specs.Leading.{all_ways}
-use Rattle.aud_gen.specs.Writes.{ended, Writes, statement_lines, part_lines, for_lines, stub_lines, guard_lines, handlers_lines, body_lines}
+use Rattle.aud_gen.specs.Writes.{bounds, ended, statement_lines, part_lines, for_lines, stub_lines, guard_lines, handlers_lines, body_lines}
 use Rattle.aud_gen.proofs.Writing.{Adds, written_more, instructions_written}
 use Rattle.aud_gen.proofs.Lines.{continued, statement_length, part_written, body_written}
 
 -- A `for`: its two steps, and its statements.
-
-abbrev pub bounds : ForStatement → ℕ
-bounds s = length (integer_code (plain_integer (out-ForStatement s).first)) + length (integer_code (plain_integer (out-ForStatement s).last))
 
 for_size : (s : ForStatement) (place again next out : ℕ) (within : Option ℕ) → length (for_lines s place again next out within) ≡ suc (suc (bounds s))
 for_size s place again next out within =
@@ -69,17 +65,15 @@ for_done s old mid new again next a inner e i h k =
     ∙ ap (λ n. old ++ (steps n ++ statement_lines ss (suc n) n (in_for (length old) next a))) here
     ∙ ap (λ ls. old ++ ls) (for_whole s (length old) next a)
 
-pub whole_for : {X : Type 0} (r : Result X AllocError) (s : ForStatement) (old mid new : List FlatLine) (place again next : ℕ) (a inner : Around) → place ≡ length old → again ≡ suc (length old + bounds s) → inner ≡ in_for place next a → mid ≡ old ++ for_lines s place again next a.out a.within →
-    Writes r mid new (statement_lines (statements_in (out-ForStatement s).statements) (length mid) again inner) → Writes r old new (statement_lines (for_in s) (length old) next a)
-whole_for (Ok x) s old mid new place again next a inner p e i h k = for_done s old mid new again next a inner e (i ∙ ap (λ n. in_for n next a) p) (h ∙ ap (λ n. old ++ for_lines s n again next a.out a.within) p) k
-whole_for (Err x) s old mid new place again next a inner p e i h k = tt
+pub whole_for : (s : ForStatement) (old mid new : List FlatLine) (place again next : ℕ) (a inner : Around) → place ≡ length old → again ≡ suc (length old + bounds s) → inner ≡ in_for place next a → mid ≡ old ++ for_lines s place again next a.out a.within →
+    new ≡ mid ++ statement_lines (statements_in (out-ForStatement s).statements) (length mid) again inner → new ≡ old ++ statement_lines (for_in s) (length old) next a
+whole_for s old mid new place again next a inner p e i h k = for_done s old mid new again next a inner e (i ∙ ap (λ n. in_for n next a) p) (h ∙ ap (λ n. old ++ for_lines s n again next a.out a.within) p) k
 
 -- its steps, by what is written of them
-pub whole_control : {X : Type 0} (r : Result X AllocError) (old n1 n2 n3 new : List FlatLine) (x y : List Instruction) (one two : ℕ → List FlatLine) (inside place : ℕ) → inside ≡ place → Adds old n1 x → Adds n1 n2 y → n3 ≡ n2 ++ one inside → Writes r n3 new (two inside) → Writes r old new ((map instructs (x ++ y) ++ one place) ++ two place)
-whole_control (Ok t) old n1 n2 n3 new x y one two inside place e h1 h2 h3 h4 =
+pub whole_control : (old n1 n2 n3 new : List FlatLine) (x y : List Instruction) (one two : ℕ → List FlatLine) (inside place : ℕ) → inside ≡ place → Adds old n1 x → Adds n1 n2 y → n3 ≡ n2 ++ one inside → new ≡ n3 ++ two inside → new ≡ old ++ ((map instructs (x ++ y) ++ one place) ++ two place)
+whole_control old n1 n2 n3 new x y one two inside place e h1 h2 h3 h4 =
     written_more old n3 new (map instructs (x ++ y) ++ one inside) (two inside) (written_more old n2 n3 (map instructs (x ++ y)) (one inside) (instructions_written old n1 n2 x y h1 h2) h3) h4
     ∙ ap (λ n. old ++ ((map instructs (x ++ y) ++ one n) ++ two n)) e
-whole_control (Err t) old n1 n2 n3 new x y one two inside place e h1 h2 h3 h4 = tt
 
 -- Handlers, one after the other.
 
@@ -125,14 +119,13 @@ end_and_size (body d begin s h stop) place e = omega arith
 
 -- by what is written of it one after the other, its ways being those of surroundings of which only the exceptions differ
 module _ (w : ℕ → Around) (within : Option ℕ) (count : ℕ) (counted : (out : ℕ) → ways_count (w out) ≡ count) where
-  pub whole_body : {X : Type 0} (r : Result X AllocError) (c : Construct) (d : tree.Part) (s : tree.Statement) (h : tree.Handlers) (at : Pos) (old n1 n2 n3 n4 new : List FlatLine) (begin guard last next out : ℕ) →
+  pub whole_body : (c : Construct) (d : tree.Part) (s : tree.Statement) (h : tree.Handlers) (at : Pos) (old n1 n2 n3 n4 new : List FlatLine) (begin guard last next out : ℕ) →
       begin ≡ length old + part_size_by flat_step d count → guard ≡ begin + statement_size_by flat_step s count →
       n1 ≡ old ++ part_lines d (length old) begin (w last) → n2 ≡ n1 ++ statement_lines s (length n1) last (w guard) →
       n3 ≡ n2 ++ guard_lines h at (length n2) last count within → n4 ≡ n3 ++ handlers_lines h (length n3) last (w last) →
-      Writes r n4 new (ended (Ends c next) at out within) →
-      Writes r old new (part_lines d (length old) (length old + part_size_by flat_step d count) (w last) ++ (statement_lines s (length old + part_size_by flat_step d count) last (w (length old + part_size_by flat_step d count + statement_size_by flat_step s count)) ++ (guard_lines h at (length old + part_size_by flat_step d count + statement_size_by flat_step s count) last count within ++ (handlers_lines h (suc (length old + part_size_by flat_step d count + statement_size_by flat_step s count)) last (w last) ++ written (end_line c at next out within ∷ [])))))
-  whole_body (Err x) c d s h at old n1 n2 n3 n4 new begin guard last next out eb eg h1 h2 h3 h4 h5 = tt
-  whole_body (Ok x) c d s h at old n1 n2 n3 n4 new begin guard last next out eb eg h1 h2 h3 h4 h5 =
+      new ≡ n4 ++ ended (Ends c next) at out within →
+      new ≡ old ++ (part_lines d (length old) (length old + part_size_by flat_step d count) (w last) ++ (statement_lines s (length old + part_size_by flat_step d count) last (w (length old + part_size_by flat_step d count + statement_size_by flat_step s count)) ++ (guard_lines h at (length old + part_size_by flat_step d count + statement_size_by flat_step s count) last count within ++ (handlers_lines h (suc (length old + part_size_by flat_step d count + statement_size_by flat_step s count)) last (w last) ++ written (end_line c at next out within ∷ [])))))
+  whole_body c d s h at old n1 n2 n3 n4 new begin guard last next out eb eg h1 h2 h3 h4 h5 =
       let A = part_lines d (length old) begin (w last) in
       let S = statement_lines s begin last (w guard) in
       let G = guard_lines h at guard last count within in
@@ -187,11 +180,10 @@ module _ (at : Pos) (region : ℕ) (d : tree.Part) (begin : Pos) (s : tree.State
       ∙ ap (λ ls. old ++ ls) (block_whole place inside next a)
       ∙ ap (λ i. old ++ (enters i next a.out a.within ++ written (body_code_by flat_step construct.Block B i next a.out (in_block place (end_place_by flat_step B i (ways_count a)) a) ++ stubs_of B (a.exits ++ a.back ∷ []) (Some place) (suc (end_place_by flat_step B i (ways_count a)))))) here
 
-pub whole_block : {X : Type 0} (r : Result X AllocError) (at : Pos) (region : ℕ) (b : tree.Body) (d : tree.Part) (begin : Pos) (s : tree.Statement) (h : tree.Handlers) (stop : Pos) (old n1 n2 new : List FlatLine) (place inside last next : ℕ) (a inner : Around) → b ≡ body d begin s h stop → place ≡ length old → inside ≡ length old + 1 → last ≡ end_place_by flat_step b inside (ways_count a) → inner ≡ in_block place last a →
-    n1 ≡ old ++ enters at region d begin s h stop inside next a.out a.within → n2 ≡ n1 ++ body_lines construct.Block b last (length n1) next a.out inner → Writes r n2 new (stub_lines (all_ways a) stop (Some place) (length n2)) →
-    Writes r old new (statement_lines (block at region b) (length old) next a)
-whole_block (Err x) at region b d begin s h stop old n1 n2 new place inside last next a inner eb p ei el en h1 h2 h3 = tt
-whole_block (Ok x) at region b d begin s h stop old n1 n2 new place inside last next a inner eb p ei el en h1 h2 h3 =
+pub whole_block : (at : Pos) (region : ℕ) (b : tree.Body) (d : tree.Part) (begin : Pos) (s : tree.Statement) (h : tree.Handlers) (stop : Pos) (old n1 n2 new : List FlatLine) (place inside last next : ℕ) (a inner : Around) → b ≡ body d begin s h stop → place ≡ length old → inside ≡ length old + 1 → last ≡ end_place_by flat_step b inside (ways_count a) → inner ≡ in_block place last a →
+    n1 ≡ old ++ enters at region d begin s h stop inside next a.out a.within → n2 ≡ n1 ++ body_lines construct.Block b last (length n1) next a.out inner → new ≡ n2 ++ stub_lines (all_ways a) stop (Some place) (length n2) →
+    new ≡ old ++ statement_lines (block at region b) (length old) next a
+whole_block at region b d begin s h stop old n1 n2 new place inside last next a inner eb p ei el en h1 h2 h3 =
     block_done at region d begin s h stop old n1 n2 new inside last next a inner ei (el ∙ ap (λ z. end_place_by flat_step z inside (ways_count a)) eb) (en ∙ ap (λ n. in_block n last a) p) h1 (h2 ∙ ap (λ z. n1 ++ body_lines construct.Block z last (length n1) next a.out inner) eb) (h3 ∙ ap (λ n. n2 ++ stub_lines (all_ways a) stop (Some n) (length n2)) p)
     ∙ ap (λ z. old ++ statement_lines (block at region z) (length old) next a) (sym eb)
 

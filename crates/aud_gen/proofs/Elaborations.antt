@@ -1,7 +1,5 @@
 -- What a body does before its statements: its declarations, and the activation at its `begin`.
 use Rattle.std.proofs.Common.{◌≡◌, ℕ, ◌+◌, List, [], ◌∷◌, ◌++◌, length, true, refl, ap, sym, ◌∙◌, arith, append_assoc}
-use Rattle.std.specs.Prelude.{Result, Ok, Err}
-use Rattle.std.specs.declared.alloc.AllocError.{AllocError}
 use Rattle.aud_text.specs.declared.place.Pos.{Pos}
 use Rattle.aud_typed.specs.Tree as tree
 use Rattle.aud_typed.specs.Tree.{before, part_of, activate, sequence, activation}
@@ -11,7 +9,7 @@ use Rattle.aud_code.specs.declared.line.Last.TheVariants.{Concerns}
 use Rattle.aud_layout.specs.Layout.{Around, ways_count, statement_size_by, part_size_by, statement_code_by}
 use Rattle.aud_layout.specs.Written.{flat_step}
 use Rattle.aud_layout.proofs.Flat.Assembly.{assembled_append}
-use Rattle.aud_gen.specs.Writes.{ended, Writes, statement_lines, part_lines}
+use Rattle.aud_gen.specs.Writes.{ended, statement_lines, part_lines}
 use Rattle.aud_gen.proofs.Lists.{before_length}
 
 abbrev size : tree.Statement → ℕ → ℕ
@@ -65,11 +63,10 @@ activated_lines [] at place next a = refl
 activated_lines (x ∷ xs) at place next a = sym (last_of x xs (activate at) place next a)
 
 -- by what is written of them
-pub whole_activated : {X : Type 0} (r : Result X AllocError) (xs : List tree.Statement) (at : Pos) (old mid new : List FlatLine) (behind next : ℕ) (a : Around) → behind ≡ length old + sizes xs (ways_count a) →
-    mid ≡ old ++ part_lines (part_of xs) (length old) behind a → Writes r mid new (ended (Concerns Activate next) at a.out a.within) →
-    Writes r old new (part_lines (part_of (xs ++ activation true at)) (length old) next a)
-whole_activated (Err x) xs at old mid new behind next a e h k = tt
-whole_activated (Ok x) xs at old mid new behind next a e h k =
+pub whole_activated : (xs : List tree.Statement) (at : Pos) (old mid new : List FlatLine) (behind next : ℕ) (a : Around) → behind ≡ length old + sizes xs (ways_count a) →
+    mid ≡ old ++ part_lines (part_of xs) (length old) behind a → new ≡ mid ++ ended (Concerns Activate next) at a.out a.within →
+    new ≡ old ++ (part_lines (part_of (xs ++ activation true at)) (length old) next a)
+whole_activated xs at old mid new behind next a e h k =
     let A = part_lines (part_of xs) (length old) in
     let L = ended (Concerns Activate next) at a.out a.within in
     k

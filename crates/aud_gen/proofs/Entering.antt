@@ -1,8 +1,6 @@
 -- The code of entry calls, accepts and selective accepts in memory.
 use Rattle.std.proofs.Common.{◌≡◌, ℕ, suc, ◌+◌, ◌<◌, List, [], ◌∷◌, ◌++◌, length, drop, get_or, add-one, refl, ap, sym, ◌∙◌, arith, append-nil, append_assoc, length-append}
-use Rattle.std.specs.Prelude.{Some, None, map, Result, Ok, Err}
-use Rattle.std.specs.declared.alloc.AllocError.{AllocError}
-use Rattle.std.proofs.lemmas.List.{map-append}
+use Rattle.std.specs.Prelude.{Some, None, map}
 use Rattle.aud_text.specs.declared.place.Pos.{Pos}
 use Rattle.aud_typed.specs.declared.program.AcceptStatement.{AcceptStatement'}
 use Rattle.aud_typed.specs.declared.program.Alternative as alternative
@@ -21,7 +19,7 @@ use Rattle.aud_layout.specs.Written.{flat_step, written}
 use Rattle.aud_layout.proofs.Flat.Assembly.{assembled_append, its_length}
 use Rattle.aud_layout.proofs.Flat.Behind.{adds}
 use Rattle.aud_layout.proofs.Standing.Sizes.{total-doing, total-offered}
-use Rattle.aud_gen.specs.Writes.{alone, alternative_size, Writes, statement_lines, part_lines, doing_lines, offered_lines, body_lines}
+use Rattle.aud_gen.specs.Writes.{alone, alternative_size, Code, Instructs, Writes, statement_lines, part_lines, doing_lines, offered_lines, body_lines}
 use Rattle.aud_gen.proofs.Constructs.{body_laid}
 use Rattle.aud_gen.proofs.Lines.{continued, part_written, written_length}
 use Rattle.aud_gen.proofs.Loops.{dropped}
@@ -128,18 +126,6 @@ next_delay_length xs i x h e = ap length (next_delay xs i x h e) ∙ length-appe
 pub next_alternative : (xs : List Alternative) (i : ℕ) (x : Alternative) → i < length xs → x ≡ get_or xs i x → (ways : ℕ) → offered_size_by flat_step (alternatives_in (drop i xs)) ways ≡ alternative_size x ways + offered_size_by flat_step (alternatives_in (drop (i + 1) xs)) ways
 next_alternative xs i x h e ways = ap (λ ys. offered_size_by flat_step (alternatives_in ys) ways) (dropped xs i x h e) ∙ size_split x (alternatives_in (drop (i + 1) xs)) ways
 
--- what was written so far, and what is left to write of this
-abbrev pub with_code : List FlatLine → List Instruction → List FlatLine
-with_code now left = now ++ map instructs left
-
-pub one_code : (now new whole : List FlatLine) (first rest left : List Instruction) → left ≡ first ++ rest → Adds now new first → with_code now left ≡ whole → with_code new rest ≡ whole
-one_code now new whole first rest left split h all =
-    ap (λ ls. ls ++ map instructs rest) h
-    ∙ append_assoc now (map instructs first) (map instructs rest)
-    ∙ ap (λ ls. now ++ ls) (sym (map-append instructs first rest))
-    ∙ ap (λ is. now ++ map instructs is) (sym split)
-    ∙ all
-
 -- where alternatives lead, so far and those that are left
 pub one_offer : (xs : List Alternative) (i : ℕ) (x : Alternative) → i < length xs → x ≡ get_or xs i x → (place next ways behind : ℕ) (done more whole : List ℕ) →
     parts_from_by flat_step (alone x) place next ways ≡ behind ∷ [] → more ≡ done ++ behind ∷ [] →
@@ -169,12 +155,19 @@ one_body xs i x h e place next ways body done more whole one is left =
 
 -- A step: its instructions, and its ending.
 
-pub whole_step : {X : Type 0} (r : Result X AllocError) (old mid new : List FlatLine) (is : List Instruction) (a b : EndLine) → a ≡ b → Adds old mid is → Writes r mid new (end a ∷ []) → Writes r old new ((map instructs is ++ end b ∷ []) ++ [])
-whole_step (Err x) old mid new is a b e h k = tt
-whole_step (Ok x) old mid new is a b e h k =
+pub whole_step : (old mid new : List FlatLine) (is : List Instruction) (a b : EndLine) → a ≡ b → Adds old mid is → new ≡ mid ++ end a ∷ [] → new ≡ old ++ ((map instructs is ++ end b ∷ []) ++ [])
+whole_step old mid new is a b e h k =
     written_more old mid new (map instructs is) (end a ∷ []) h k
     ∙ ap (λ (z : EndLine). old ++ (map instructs is ++ end z ∷ [])) e
     ∙ ap (λ ls. old ++ ls) (sym (append-nil (map instructs is ++ end b ∷ [])))
+
+pub one_step : {a b c : Code} (is : List Instruction) (k l : EndLine) → k ≡ l → Instructs a b is → Writes b c (end k ∷ []) → Writes a c ((map instructs is ++ end l ∷ []) ++ [])
+one_step {a} {b} {c} is k l e h m = record {
+  unless_refused = λ r.
+      let then = m.unless_refused r in
+      let first = h.writes.unless_refused then.0 in
+      (first.0, whole_step a.lines b.lines c.lines is k l e first.1 then.1);
+}
 
 pub places_moved : (ns : List ℕ) → ns ≡ map (λ (n : ℕ). n) ns
 places_moved [] = refl
@@ -205,10 +198,6 @@ module _ (s : tree.Statement) (a : Around) where
 
 pub list_read : (old new : List FlatLine) (xs ys : List Statement) (next : ℕ) (a : Around) → xs ≡ ys → new ≡ old ++ part_lines (part_of (plain_statements xs)) (length old) next a → new ≡ old ++ part_lines (part_of (plain_statements ys)) (length old) next a
 list_read old new xs ys next a is h = h ∙ ap (λ zs. old ++ part_lines (part_of (plain_statements zs)) (length old) next a) is
-
-pub list_writes : {X : Type 0} (r : Result X AllocError) (old new : List FlatLine) (xs ys : List Statement) (next : ℕ) (a : Around) → xs ≡ ys → Writes r old new (part_lines (part_of (plain_statements xs)) (length old) next a) → Writes r old new (part_lines (part_of (plain_statements ys)) (length old) next a)
-list_writes (Err x) old new xs ys next a is h = tt
-list_writes (Ok x) old new xs ys next a is h = list_read old new xs ys next a is h
 
 pub offered_read : (old new : List FlatLine) (xs ys : List Alternative) (m n next : ℕ) (a : Around) → xs ≡ ys → m ≡ n → new ≡ old ++ offered_lines (alternatives_in xs) m (length old) next a → new ≡ old ++ offered_lines (alternatives_in ys) n (length old) next a
 offered_read old new xs ys m n next a is same h =
@@ -241,19 +230,17 @@ module _ (at : Pos) (call : tree.EntryCall) (p q : Part) (next : ℕ) (a : Aroun
       ∙ ap (λ ls. old ++ (step (part_place p inside next) (part_place q second next) ++ ls)) (sym (assembled_append (λ n. n) P Q))
       ∙ ap (λ ls. old ++ ls) (step_and S a (part_place p inside next ∷ part_place q second next ∷ []) [] (P ++ Q))
 
-pub whole_call : {X : Type 0} (r : Result X AllocError) (at : Pos) (call : tree.EntryCall) (p q : Part) (old n1 n2 new : List FlatLine) (x y next : ℕ) (a : Around) →
+pub whole_call : (at : Pos) (call : tree.EntryCall) (p q : Part) (old n1 n2 new : List FlatLine) (x y next : ℕ) (a : Around) →
     let inside = inside_of (entry_call at call p q) a (length old) in
     x ≡ part_place p inside next → y ≡ part_place q (inside + part_size_by flat_step p (ways_count a)) next →
-    n1 ≡ old ++ its_step (entry_call at call p q) a (x ∷ y ∷ []) [] → n2 ≡ n1 ++ part_lines p (length n1) next a → Writes r n2 new (part_lines q (length n2) next a) → Writes r old new (statement_lines (entry_call at call p q) (length old) next a)
-whole_call (Err e) at call p q old n1 n2 new x y next a ex ey h1 h2 h3 = tt
-whole_call (Ok t) at call p q old n1 n2 new x y next a ex ey h1 h2 h3 = call_done at call p q next a old n1 n2 new x y ex ey h1 h2 h3
+    n1 ≡ old ++ its_step (entry_call at call p q) a (x ∷ y ∷ []) [] → n2 ≡ n1 ++ part_lines p (length n1) next a → new ≡ n2 ++ part_lines q (length n2) next a → new ≡ old ++ statement_lines (entry_call at call p q) (length old) next a
+whole_call at call p q old n1 n2 new x y next a ex ey h1 h2 h3 = call_done at call p q next a old n1 n2 new x y ex ey h1 h2 h3
 
 -- An accept: its step, and what it does.
 
-pub whole_accept : {X : Type 0} (r : Result X AllocError) (at : Pos) (entry : ℕ) (d : Doing) (old mid new : List FlatLine) (own body next : ℕ) (a : Around) → own ≡ length old → body ≡ doing_place d (own + 1) next →
-    mid ≡ old ++ its_step (accept at entry d) a (next ∷ []) (body ∷ []) → Writes r mid new (doing_lines d own (length mid) next a.out) → Writes r old new (statement_lines (accept at entry d) (length old) next a)
-whole_accept (Err e) at entry d old mid new own body next a eo eb h k = tt
-whole_accept (Ok t) at entry d old mid new own body next a eo eb h k =
+pub whole_accept : (at : Pos) (entry : ℕ) (d : Doing) (old mid new : List FlatLine) (own body next : ℕ) (a : Around) → own ≡ length old → body ≡ doing_place d (own + 1) next →
+    mid ≡ old ++ its_step (accept at entry d) a (next ∷ []) (body ∷ []) → new ≡ mid ++ doing_lines d own (length mid) next a.out → new ≡ old ++ statement_lines (accept at entry d) (length old) next a
+whole_accept at entry d old mid new own body next a eo eb h k =
     let inside = inside_of (accept at entry d) a (length old) in
     let here : own + 1 ≡ inside = omega (arith, eo) in
     let step = λ (n : ℕ). its_step (accept at entry d) a (next ∷ []) (n ∷ []) in
@@ -265,10 +252,9 @@ whole_accept (Ok t) at entry d old mid new own body next a eo eb h k =
     ∙ ap (λ ls. old ++ ls) (step_and (accept at entry d) a (next ∷ []) (doing_place d inside next ∷ []) D)
 
 -- what it does, which is a body
-pub whole_doing : {X : Type 0} (r : Result X AllocError) (d : Doing) (region : ℕ) (b : tree.Body) (opener last next out : ℕ) (old new : List FlatLine) (a : Around) → d ≡ with_do region b → last ≡ end_place_by flat_step b (length old) 1 → a ≡ in_call (Some opener) last →
-    Writes r old new (body_lines construct.Accept b last (length old) next out a) → Writes r old new (doing_lines d opener (length old) next out)
-whole_doing (Err x) d region b opener last next out old new a is el ea h = tt
-whole_doing (Ok x) d region b opener last next out old new a is el ea h =
+pub whole_doing : (d : Doing) (region : ℕ) (b : tree.Body) (opener last next out : ℕ) (old new : List FlatLine) (a : Around) → d ≡ with_do region b → last ≡ end_place_by flat_step b (length old) 1 → a ≡ in_call (Some opener) last →
+    new ≡ old ++ body_lines construct.Accept b last (length old) next out a → new ≡ old ++ doing_lines d opener (length old) next out
+whole_doing d region b opener last next out old new a is el ea h =
     let L = end_place_by flat_step b (length old) 1 in
     h
     ∙ ap (λ z. old ++ body_lines construct.Accept b last (length old) next out z) ea
@@ -283,11 +269,10 @@ offered_written : (o : tree.Alternatives) (opener place next : ℕ) (a : Around)
 offered_written o opener place next a = written_length (offered_code_by flat_step o opener place next a) ∙ (total-offered flat_step adds flat_step o opener place next a).is
 
 -- An alternative that accepts: what the accept does, and what stands behind it.
-pub whole_alternative : {X : Type 0} (r : Result X AllocError) (o : tree.Alternatives) (g : tree.BooleanExpression) (at : Pos) (entry : ℕ) (d : Doing) (p : Part) (old mid new : List FlatLine) (opener second behind next : ℕ) (a : Around) →
+pub whole_alternative : (o : tree.Alternatives) (g : tree.BooleanExpression) (at : Pos) (entry : ℕ) (d : Doing) (p : Part) (old mid new : List FlatLine) (opener second behind next : ℕ) (a : Around) →
     o ≡ accepting g at entry d p no_alternatives → second ≡ length old + doing_size_by flat_step d → behind ≡ part_place p second next →
-    mid ≡ old ++ doing_lines d opener (length old) behind a.out → Writes r mid new (part_lines p (length mid) next a) → Writes r old new (offered_lines o opener (length old) next a)
-whole_alternative (Err x) o g at entry d p old mid new opener second behind next a is es eb h k = tt
-whole_alternative (Ok x) o g at entry d p old mid new opener second behind next a is es eb h k =
+    mid ≡ old ++ doing_lines d opener (length old) behind a.out → new ≡ mid ++ part_lines p (length mid) next a → new ≡ old ++ offered_lines o opener (length old) next a
+whole_alternative o g at entry d p old mid new opener second behind next a is es eb h k =
     let place = length old in
     let after = place + doing_size_by flat_step d in
     let D = λ (n : ℕ). doing_lines d opener place n a.out in
@@ -303,10 +288,9 @@ whole_alternative (Ok x) o g at entry d p old mid new opener second behind next 
     ∙ ap (λ z. old ++ offered_lines z opener place next a) (sym is)
 
 -- one that does not
-pub whole_waiting : {X : Type 0} (r : Result X AllocError) (o : tree.Alternatives) (g : tree.BooleanExpression) (e : tree.DelayExpression) (p : Part) (old new : List FlatLine) (opener next : ℕ) (a : Around) →
-    o ≡ tree.delaying g e p no_alternatives → Writes r old new (part_lines p (length old) next a) → Writes r old new (offered_lines o opener (length old) next a)
-whole_waiting (Err x) o g e p old new opener next a is h = tt
-whole_waiting (Ok x) o g e p old new opener next a is h =
+pub whole_waiting : (o : tree.Alternatives) (g : tree.BooleanExpression) (e : tree.DelayExpression) (p : Part) (old new : List FlatLine) (opener next : ℕ) (a : Around) →
+    o ≡ tree.delaying g e p no_alternatives → new ≡ old ++ part_lines p (length old) next a → new ≡ old ++ offered_lines o opener (length old) next a
+whole_waiting o g e p old new opener next a is h =
     h
     ∙ ap (λ z. old ++ written z) (sym (append-nil (part_code_by flat_step p (length old) next a)))
     ∙ ap (λ z. old ++ offered_lines z opener (length old) next a) (sym is)
@@ -350,12 +334,11 @@ module _ (at : Pos) (offered : tree.Alternatives) (p : Part) (next : ℕ) (a : A
       ∙ ap (λ ls. old ++ (its_step C a (part_place p second next ∷ parts_from_by flat_step offered inside next (ways_count a)) (own ∷ bodies_from_by flat_step offered inside next (ways_count a)) ++ ls)) (sym (assembled_append (λ n. n) O P))
       ∙ ap (λ ls. old ++ ls) (step_and C a (part_place p second next ∷ parts_from_by flat_step offered inside next (ways_count a)) (own ∷ bodies_from_by flat_step offered inside next (ways_count a)) (O ++ P))
 
-pub whole_select : {X : Type 0} (r : Result X AllocError) (at : Pos) (offered : tree.Alternatives) (p : Part) (old n1 n2 new : List FlatLine) (own x next : ℕ) (ways bodies : List ℕ) (a : Around) →
+pub whole_select : (at : Pos) (offered : tree.Alternatives) (p : Part) (old n1 n2 new : List FlatLine) (own x next : ℕ) (ways bodies : List ℕ) (a : Around) →
     let inside = inside_of (select at offered p) a (length old) in
     own ≡ length old → x ≡ part_place p (inside + offered_size_by flat_step offered (ways_count a)) next → ways ≡ parts_from_by flat_step offered inside next (ways_count a) → bodies ≡ bodies_from_by flat_step offered inside next (ways_count a) →
-    n1 ≡ old ++ its_step (select at offered p) a (x ∷ ways) (own ∷ bodies) → n2 ≡ n1 ++ offered_lines offered own (length n1) next a → Writes r n2 new (part_lines p (length n2) next a) → Writes r old new (statement_lines (select at offered p) (length old) next a)
-whole_select (Err e) at offered p old n1 n2 new own x next ways bodies a eo ex ew eb h1 h2 h3 = tt
-whole_select (Ok t) at offered p old n1 n2 new own x next ways bodies a eo ex ew eb h1 h2 h3 =
+    n1 ≡ old ++ its_step (select at offered p) a (x ∷ ways) (own ∷ bodies) → n2 ≡ n1 ++ offered_lines offered own (length n1) next a → new ≡ n2 ++ part_lines p (length n2) next a → new ≡ old ++ statement_lines (select at offered p) (length old) next a
+whole_select at offered p old n1 n2 new own x next ways bodies a eo ex ew eb h1 h2 h3 =
     select_done at offered p next a old n1 n2 new x ways bodies ex ew eb
     (h1 ∙ ap (λ n. old ++ its_step (select at offered p) a (x ∷ ways) (n ∷ bodies)) eo)
     (h2 ∙ ap (λ n. n1 ++ offered_lines offered n (length n1) next a) eo) h3

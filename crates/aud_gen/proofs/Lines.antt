@@ -1,8 +1,7 @@
 -- The lines of statements in memory, one after the other.
 use Rattle.std.proofs.Common.{◌≡◌, ℕ, suc, ◌+◌, ◌<◌, List, [], ◌∷◌, ◌++◌, length, Bool, true, false, nat_eq, refl, ap, sym, ◌∙◌, arith, append-nil, append_assoc, length-append}
 use Rattle.std.proofs.Math.Dec.{eqb-suc-zero}
-use Rattle.std.specs.Prelude.{Option, None, map, if◌then◌else◌, Result, Ok, Err, IsTrue, IsFalse}
-use Rattle.std.specs.declared.alloc.AllocError.{AllocError}
+use Rattle.std.specs.Prelude.{Option, None, map, if◌then◌else◌, IsTrue, IsFalse}
 use Rattle.aud_text.specs.declared.place.Pos.{Pos}
 use Rattle.aud_typed.specs.declared.program.Arm.{Arm}
 use Rattle.aud_typed.specs.declared.program.Statement.{Statement}
@@ -20,7 +19,7 @@ use Rattle.aud_layout.specs.Written.{flat_step, written}
 use Rattle.aud_layout.proofs.Flat.Assembly.{assembled_append, its_length}
 use Rattle.aud_layout.proofs.Flat.Behind.{adds, total_more}
 use Rattle.aud_layout.proofs.Standing.Sizes.{total, total-statement, total-part, total-body}
-use Rattle.aud_gen.specs.Writes.{ended, Writes, has_statements, statement_lines, part_lines, listed_lines, arm_length, arm_lines, while_lines}
+use Rattle.aud_gen.specs.Writes.{ended, has_statements, statement_lines, part_lines, listed_lines, arm_length, arm_lines, arm_step, while_lines}
 use Rattle.aud_gen.proofs.Writing.{Adds, written_more}
 
 pub chosen : (b : Bool) (x y : ℕ) → IsTrue b → (if b then x else y) ≡ x
@@ -132,62 +131,55 @@ while_done at c ss old mid new next place a here h k =
     ∙ ap (λ n. old ++ (step ++ statement_lines ss n place (in_loop next a))) inside
     ∙ ap (λ n. old ++ (step ++ statement_lines ss (suc (length old + length (condition_code c))) n (in_loop next a))) here
 
-pub whole_while : {X : Type 0} (r : Result X AllocError) (at : Pos) (c : tree.BooleanExpression) (ss tt' s : tree.Statement) (old mid new : List FlatLine) (next place : ℕ) (a : Around) → place ≡ length old → mid ≡ old ++ while_lines at c (length old) next a.out a.within →
-    tt' ≡ ss → s ≡ while_loop at c ss → Writes r mid new (statement_lines tt' (length mid) place (in_loop next a)) → Writes r old new (statement_lines s (length old) next a)
-whole_while (Ok x) at c ss tt' s old mid new next place a here h e is k =
+pub whole_while : (at : Pos) (c : tree.BooleanExpression) (ss tt' s : tree.Statement) (old mid new : List FlatLine) (next place : ℕ) (a : Around) → place ≡ length old → mid ≡ old ++ while_lines at c (length old) next a.out a.within →
+    tt' ≡ ss → s ≡ while_loop at c ss → new ≡ mid ++ statement_lines tt' (length mid) place (in_loop next a) → new ≡ old ++ statement_lines s (length old) next a
+whole_while at c ss tt' s old mid new next place a here h e is k =
     while_done at c ss old mid new next place a here h (k ∙ ap (λ z. mid ++ statement_lines z (length mid) place (in_loop next a)) e)
     ∙ ap (λ z. old ++ statement_lines z (length old) next a) (sym is)
-whole_while (Err x) at c ss tt' s old mid new next place a here h e is k = tt
 
 -- the lines of what is the same
-pub same_lines : {X : Type 0} (r : Result X AllocError) (old new : List FlatLine) (s t : tree.Statement) (next : ℕ) (a : Around) → s ≡ t → Writes r old new (statement_lines s (length old) next a) → Writes r old new (statement_lines t (length old) next a)
-same_lines (Ok x) old new s t next a e h = h ∙ ap (λ z. old ++ statement_lines z (length old) next a) e
-same_lines (Err x) old new s t next a e h = tt
+pub same_lines : (old new : List FlatLine) (s t : tree.Statement) (next : ℕ) (a : Around) → s ≡ t → new ≡ old ++ statement_lines s (length old) next a → new ≡ old ++ statement_lines t (length old) next a
+same_lines old new s t next a e h = h ∙ ap (λ z. old ++ statement_lines z (length old) next a) e
 
-pub same_loop : {X : Type 0} (r : Result X AllocError) (old new : List FlatLine) (ss tt' s : tree.Statement) (next place : ℕ) (a : Around) → place ≡ length old → tt' ≡ ss → s ≡ plain_loop ss → Writes r old new (statement_lines tt' (length old) place (in_loop next a)) → Writes r old new (statement_lines s (length old) next a)
-same_loop (Ok x) old new ss tt' s next place a here e is h =
+pub same_loop : (old new : List FlatLine) (ss tt' s : tree.Statement) (next place : ℕ) (a : Around) → place ≡ length old → tt' ≡ ss → s ≡ plain_loop ss → new ≡ old ++ statement_lines tt' (length old) place (in_loop next a) → new ≡ old ++ statement_lines s (length old) next a
+same_loop old new ss tt' s next place a here e is h =
     h ∙ ap (λ z. old ++ statement_lines z (length old) place (in_loop next a)) e
     ∙ ap (λ n. old ++ statement_lines ss (length old) n (in_loop next a)) here
     ∙ ap (λ z. old ++ statement_lines z (length old) next a) (sym is)
-same_loop (Err x) old new ss tt' s next place a here e is h = tt
 
 -- the lines within the same
-pub same_around : {X : Type 0} (r : Result X AllocError) (old new : List FlatLine) (lines : Around → List FlatLine) (a b : Around) → a ≡ b → Writes r old new (lines a) → Writes r old new (lines b)
-same_around (Ok x) old new lines a b e h = h ∙ ap (λ z. old ++ lines z) e
-same_around (Err x) old new lines a b e h = tt
+pub same_around : (old new : List FlatLine) (lines : Around → List FlatLine) (a b : Around) → a ≡ b → new ≡ old ++ lines a → new ≡ old ++ lines b
+same_around old new lines a b e h = h ∙ ap (λ z. old ++ lines z) e
 
 -- a first statement, and the others
-pub whole_list : {X : Type 0} (r : Result X AllocError) (first : Statement) (others left : List Statement) (is_last : Bool) (old mid new : List FlatLine) (next : ℕ) (a : Around) → is_last ≡ is_empty others → left ≡ others →
+pub whole_list : (first : Statement) (others left : List Statement) (is_last : Bool) (old mid new : List FlatLine) (next : ℕ) (a : Around) → is_last ≡ is_empty others → left ≡ others →
     mid ≡ old ++ listed_lines (plain_statement first) is_last (length old) next a →
-    Writes r mid new (part_lines (part_of (plain_statements left)) (length mid) next a) → Writes r old new (statement_lines (in_order first others) (length old) next a)
-whole_list (Ok x) first others left is_last old mid new next a last e h k =
+    new ≡ mid ++ part_lines (part_of (plain_statements left)) (length mid) next a → new ≡ old ++ statement_lines (in_order first others) (length old) next a
+whole_list first others left is_last old mid new next a last e h k =
     k ∙ ap (λ z. with_part mid (part_of (plain_statements z)) next a) e ∙ one_listed first others is_last old mid _ next a last h refl
-whole_list (Err x) first others left is_last old mid new next a last e h k = tt
 
--- An arm, by what is written of it.
-arm_done : (arm : Arm) (more : Bool) (old now mid new : List FlatLine) (next inside otherwise : ℕ) (a : Around) → inside ≡ suc (length old + length (condition_code (plain_boolean arm.condition))) →
+-- An arm, by what is written of it: its step, and its statements.
+pub whole_arm_step : (arm : Arm) (more : Bool) (old now mid : List FlatLine) (next inside otherwise : ℕ) (a : Around) → inside ≡ suc (length old + length (condition_code (plain_boolean arm.condition))) →
     otherwise ≡ (if more then inside + statement_size_by flat_step (statements_in arm.statements) (ways_count a) else next) → Adds old now (condition_code (plain_boolean arm.condition)) →
-    mid ≡ now ++ ended (Does (If inside) otherwise) arm.at a.out a.within →
-    new ≡ mid ++ statement_lines (statements_in arm.statements) (length mid) next a → new ≡ old ++ arm_lines arm more (length old) next a
-arm_done arm more old now mid new next inside otherwise a ei eo h1 h2 h3 =
+    mid ≡ now ++ ended (Does (If inside) otherwise) arm.at a.out a.within → mid ≡ old ++ arm_step arm more (length old) next a
+whole_arm_step arm more old now mid next inside otherwise a ei eo h1 h2 =
     let ss = statements_in arm.statements in
     let c = plain_boolean arm.condition in
     let place = suc (length old + length (condition_code c)) in
     let size = statement_size_by flat_step ss (ways_count a) in
     let step_end = λ (n m : ℕ). ended (Does (If n) m) arm.at a.out a.within in
     let leads = eo ∙ ap (λ n. if more then n + size else next) ei in
-    let step = written_more old now mid (map instructs (condition_code c)) (step_end inside otherwise) h1 h2 ∙ ap (λ n. old ++ (map instructs (condition_code c) ++ step_end n otherwise)) ei ∙ ap (λ n. old ++ (map instructs (condition_code c) ++ step_end place n)) leads in
-    let lines = map instructs (condition_code c) ++ step_end place (if more then place + size else next) in
-    let same : length old + suc (length (condition_code c)) ≡ place = omega arith in
-    continued old mid new lines (λ n. statement_lines ss n next a) _ step (its_length (condition_code c) _) h3
-    ∙ ap (λ n. old ++ (lines ++ statement_lines ss n next a)) same
+    written_more old now mid (map instructs (condition_code c)) (step_end inside otherwise) h1 h2 ∙ ap (λ n. old ++ (map instructs (condition_code c) ++ step_end n otherwise)) ei ∙ ap (λ n. old ++ (map instructs (condition_code c) ++ step_end place n)) leads
 
-pub whole_arm : {X : Type 0} (r : Result X AllocError) (arm : Arm) (more : Bool) (old now mid new : List FlatLine) (next inside otherwise : ℕ) (a : Around) → inside ≡ suc (length old + length (condition_code (plain_boolean arm.condition))) →
-    otherwise ≡ (if more then inside + statement_size_by flat_step (statements_in arm.statements) (ways_count a) else next) → Adds old now (condition_code (plain_boolean arm.condition)) →
-    mid ≡ now ++ ended (Does (If inside) otherwise) arm.at a.out a.within →
-    Writes r mid new (statement_lines (statements_in arm.statements) (length mid) next a) → Writes r old new (arm_lines arm more (length old) next a)
-whole_arm (Ok x) arm more old now mid new next inside otherwise a ei eo h1 h2 h3 = arm_done arm more old now mid new next inside otherwise a ei eo h1 h2 h3
-whole_arm (Err x) arm more old now mid new next inside otherwise a ei eo h1 h2 h3 = tt
+pub whole_arm : (arm : Arm) (more : Bool) (old mid new : List FlatLine) (next : ℕ) (a : Around) → mid ≡ old ++ arm_step arm more (length old) next a →
+    new ≡ mid ++ statement_lines (statements_in arm.statements) (length mid) next a → new ≡ old ++ arm_lines arm more (length old) next a
+whole_arm arm more old mid new next a h k =
+    let ss = statements_in arm.statements in
+    let c = plain_boolean arm.condition in
+    let lines = arm_step arm more (length old) next a in
+    let same : length old + suc (length (condition_code c)) ≡ suc (length old + length (condition_code c)) = omega arith in
+    continued old mid new lines (λ n. statement_lines ss n next a) _ h (its_length (condition_code c) _) k
+    ∙ ap (λ n. old ++ (lines ++ statement_lines ss n next a)) same
 
 -- an `if` by its arms
 abbrev pub if_by : Arm → List Arm → tree.Part → tree.Statement
@@ -199,9 +191,8 @@ some_arm [] p h = absurd (omega (arith, h))
 some_arm (a ∷ more) p h = refl
 
 -- the step of a `while`, by what is written of it
-pub whole_test : {X : Type 0} (r : Result X AllocError) (at : Pos) (c : tree.BooleanExpression) (old now new : List FlatLine) (next out inside : ℕ) (within : Option ℕ) → inside ≡ suc (length old + length (condition_code c)) → Adds old now (condition_code c) →
-    Writes r now new (ended (Does (While inside) next) at out within) → Writes r old new (while_lines at c (length old) next out within)
-whole_test (Ok x) at c old now new next out inside within e h k =
+pub whole_test : (at : Pos) (c : tree.BooleanExpression) (old now new : List FlatLine) (next out inside : ℕ) (within : Option ℕ) → inside ≡ suc (length old + length (condition_code c)) → Adds old now (condition_code c) →
+    new ≡ now ++ ended (Does (While inside) next) at out within → new ≡ old ++ while_lines at c (length old) next out within
+whole_test at c old now new next out inside within e h k =
     let step_end = λ (n : ℕ). ended (Does (While n) next) at out within in
     written_more old now new (map instructs (condition_code c)) (step_end inside) h k ∙ ap (λ n. old ++ (map instructs (condition_code c) ++ step_end n)) e
-whole_test (Err x) at c old now new next out inside within e h k = tt

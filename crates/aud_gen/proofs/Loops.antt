@@ -1,6 +1,6 @@
 -- Loops over lists.
 use Rattle.std.proofs.Common.{◌≡◌, ℕ, suc, ◌+◌, ◌<◌, ◌≤◌, List, [], ◌∷◌, length, drop, get_or, add-one, ap, sym, ◌∙◌, subst}
-use Rattle.std.specs.Prelude.{map, Result, Ok, Err, OnOk, IfOk}
+use Rattle.std.specs.Prelude.{map, Result, Ok, Err, IfOk}
 use Rattle.std.proofs.Math.Seq.{drop-cons}
 use Rattle.std.proofs.lemmas.List.{drop_all}
 
@@ -32,10 +32,6 @@ module _ {T X Y : Type 0} (all : T → List Y → T) (plain : X → Y) where
       subst Holds (sym (ends s.done) ∙ ap (λ z. all s.done (map plain z)) (sym (drop_all i items h)) ∙ s.left) s.holds
 
 -- what holds where there is a value
-pub on_ok : {T E : Type 0} (r : Result T E) {P Q : Type 0} → (P → Q) → OnOk r P → OnOk r Q
-on_ok (Ok x) f h = f h
-on_ok (Err e) f h = tt
-
 pub if_ok : {T E : Type 0} (r : Result T E) {P Q : T → Type 0} → ((x : T) → P x → Q x) → IfOk r P → IfOk r Q
 if_ok (Ok x) f h = f x h
 if_ok (Err e) f h = tt

@@ -1,7 +1,6 @@
 -- The code of bodies in memory, one after the other.
 use Rattle.std.proofs.Common.{◌≡◌, ℕ, ◌+◌, List, [], ◌∷◌, ◌++◌, length, refl, ap, sym, ◌∙◌, append-nil, append_assoc, length-append}
-use Rattle.std.specs.Prelude.{None, map, Result, Ok, Err}
-use Rattle.std.specs.declared.alloc.AllocError.{AllocError}
+use Rattle.std.specs.Prelude.{None, map}
 use Rattle.aud_typed.specs.declared.program.Unit as declared
 use Rattle.aud_typed.specs.Ties.View.{plain_unit}
 use Rattle.aud_typed.proofs.Opened.{body_open}
@@ -14,7 +13,7 @@ use Rattle.aud_layout.specs.Instructions.{condition_code}
 use Rattle.aud_layout.specs.Layout.{Around, in_call, body_size_by, end_place_by, unit_code_by, units_code_by, starts_from_by, spare_from_by}
 use Rattle.aud_layout.specs.Written.{flat_step, written, written_bodies}
 use Rattle.aud_layout.proofs.Flat.Assembly.{assembled_append}
-use Rattle.aud_gen.specs.Writes.{body_lines, unit_lines, bodies_in, Writes}
+use Rattle.aud_gen.specs.Writes.{body_lines, unit_lines, bodies_in}
 use Rattle.aud_gen.proofs.Lines.{continued, body_written}
 use Rattle.aud_gen.proofs.Constructs.{body_laid}
 
@@ -22,9 +21,8 @@ unit_size : (b : tree.Body) (place : ℕ) → length (unit_lines b place) ≡ bo
 unit_size b place = let last = end_place_by flat_step b place 1 in body_written construct.Unit b place 0 last (in_call None last)
 
 -- a body, by what is written of it
-pub whole_unit : {X : Type 0} (r : Result X AllocError) (b : tree.Body) (last : ℕ) (old new : List FlatLine) (a : Around) → last ≡ end_place_by flat_step b (length old) 1 → a ≡ in_call None last → Writes r old new (body_lines construct.Unit b last (length old) 0 last a) → Writes r old new (unit_lines b (length old))
-whole_unit (Err x) b last old new a el ea h = tt
-whole_unit (Ok x) b last old new a el ea h =
+pub whole_unit : (b : tree.Body) (last : ℕ) (old new : List FlatLine) (a : Around) → last ≡ end_place_by flat_step b (length old) 1 → a ≡ in_call None last → new ≡ old ++ body_lines construct.Unit b last (length old) 0 last a → new ≡ old ++ unit_lines b (length old)
+whole_unit b last old new a el ea h =
     let L = end_place_by flat_step b (length old) 1 in
     h
     ∙ ap (λ z. old ++ body_lines construct.Unit b last (length old) 0 last z) ea

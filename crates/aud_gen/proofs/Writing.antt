@@ -1,5 +1,5 @@
 -- What the code of expressions in memory is made of.
-use Rattle.std.proofs.Common.{◌≡◌, ℕ, ◌+◌, ◌<◌, List, [], ◌∷◌, ◌++◌, length, drop, get_or, refl, ap, sym, ◌∙◌, arith, append_assoc}
+use Rattle.std.proofs.Common.{◌≡◌, ℕ, ◌+◌, ◌<◌, List, [], ◌∷◌, ◌++◌, length, drop, get_or, Bool, true, false, refl, ap, sym, ◌∙◌, subst, arith, append-nil, append_assoc}
 use Rattle.std.specs.Prelude.{Vec, Box, map, Option, None, Some}
 use Rattle.std.specs.Global.{Global}
 use Rattle.std.proofs.lemmas.List.{length-append, map-append}
@@ -19,7 +19,7 @@ use Rattle.aud_code.specs.Instruction.{Instruction, OnTwo, Combine}
 use Rattle.aud_code.specs.Flat.{FlatLine, instructs}
 use Rattle.aud_layout.specs.Instructions.{integer_code, condition_code, text_code}
 use Rattle.aud_layout.specs.Assembly.{within_moved}
-use Rattle.aud_gen.specs.Writes.{right_code}
+use Rattle.aud_gen.specs.Writes.{right_code, Code, Finds, Instructs, Writes}
 use Rattle.aud_gen.proofs.Loops.{dropped}
 
 -- what a loop over a chain, or over joined texts, makes whole
@@ -83,13 +83,73 @@ written_more old now new a b h k = k ∙ ap (λ ls. ls ++ b) h ∙ append_assoc 
 pub instructions_written : (old now new : List FlatLine) (a b : List Instruction) → Adds old now a → Adds now new b → Adds old new (a ++ b)
 instructions_written old now new a b h k = written_more old now new (map instructs a) (map instructs b) h k ∙ ap (λ ls. old ++ ls) (sym (map-append instructs a b))
 
-pub operation_written : (old now mid new : List FlatLine) (d : tree.IntegerExpression) (o : tree.Operation) → Adds old now (integer_code d) → Adds now mid (integer_code o.right) → Adds mid new (OnTwo o.operator ∷ []) → Adds old new (integer_code (tree.binary o.operator d o.right))
-operation_written old now mid new d o h k n =
-    instructions_written old now new (integer_code d) (integer_code o.right ++ OnTwo o.operator ∷ []) h (instructions_written now mid new (integer_code o.right) (OnTwo o.operator ∷ []) k n)
+-- what is true is not false
+abbrev Unless : Type 0 → Bool → Type 0
+Unless X true = Unit {0}
+Unless X false = X
 
-pub connection_written : (old now new : List FlatLine) (c : Connective) (x y : tree.BooleanExpression) → Adds old now (condition_code x) → Adds now new (right_code c y) → Adds old new (condition_code (connected c x y))
-connection_written old now new c x y h k =
-    instructions_written old now new (condition_code x) (right_code c y) h k ∙ ap (λ is. old ++ map instructs is) (sym (connection_code c x y))
+pub contradiction : {X : Type 0} {b : Bool} → b ≡ true → b ≡ false → X
+contradiction {X} h e = subst (Unless X) (sym h ∙ e) tt
+
+-- Unless memory is refused: some instructions, and then others.
+
+infixr 30 ◌then◌
+pub ◌then◌ : {a b c : Code} {x y : List Instruction} → Instructs a b x → Instructs b c y → Instructs a c (x ++ y)
+◌then◌ {a} {b} {c} {x} {y} h k = record { writes = record { unless_refused = λ e. let last = k.writes.unless_refused e in let first = h.writes.unless_refused last.0 in (first.0, instructions_written a.lines b.lines c.lines x y first.1 last.1) } }
+
+pub connection_written : {a b c : Code} (k : Connective) (x y : tree.BooleanExpression) → Instructs a b (condition_code x) → Instructs b c (right_code k y) → Instructs a c (condition_code (connected k x y))
+connection_written {a} {c = c} k x y h i = subst (λ is. Instructs a c is) (sym (connection_code k x y)) (h then i)
+
+pub nothing_written : {a : Code} → Writes a a []
+nothing_written {a} = record { unless_refused = λ e. (e, sym (append-nil a.lines)) }
+
+pub nothing_instructed : {a : Code} → Instructs a a []
+nothing_instructed = record { writes = nothing_written }
+
+-- a number is found, and then instructions are written that depend on it
+pub found_then : {a b c : Code} (is : ℕ → List Instruction) (n whole : ℕ) → Finds a b (n ≡ whole) → Instructs b c (is n) → Instructs a c (is whole)
+found_then {a} is n whole h k = record {
+  writes = record {
+    unless_refused = λ e.
+        let last = k.writes.unless_refused e in
+        let found = h.unless_refused last.0 in
+        (found.0, last.1 ∙ ap (λ ls. ls ++ map instructs (is n)) h.same ∙ ap (λ m. a.lines ++ map instructs (is m)) found.1);
+  };
+}
+
+-- the same of lines, which depend on their place too
+pub found_lines : {a b c : Code} (lines : ℕ → ℕ → List FlatLine) (n whole : ℕ) → Finds a b (n ≡ whole) → Writes b c (lines (length b.lines) n) → Writes a c (lines (length a.lines) whole)
+found_lines {a} lines n whole h k = record {
+  unless_refused = λ e.
+      let last = k.unless_refused e in
+      let found = h.unless_refused last.0 in
+      (found.0, last.1 ∙ ap (λ ls. ls ++ lines (length ls) n) h.same ∙ ap (λ m. a.lines ++ lines (length a.lines) m) found.1);
+}
+
+-- what is found says something else too
+pub found_as : {a b : Code} {P Q : Type 0} → (P → Q) → Finds a b P → Finds a b Q
+found_as f h = record { same = h.same; unless_refused = λ e. let it = h.unless_refused e in (it.0, f it.1) }
+
+-- lines that are the same
+pub same_written : {a b : Code} (x y : List FlatLine) → x ≡ y → Writes a b x → Writes a b y
+same_written {a} {b} x y e h = subst (λ ls. Writes a b ls) e h
+
+-- of all instructions that a function writes the last ones are left to be written
+pub record Remains (begun now : Code) (all left : List Instruction) : Type 0 where
+  pub rest : (after : Code) → Instructs now after left → Instructs begun after all
+
+pub all_remain : {a : Code} (all : List Instruction) → Remains a a all all
+all_remain all = record { rest = λ after h. h }
+
+pub one_fewer : {a b c : Code} (all left first rest : List Instruction) → left ≡ first ++ rest → Remains a b all left → Instructs b c first → Remains a c all rest
+one_fewer {b = b} all left first rest e h k = record { rest = λ after l. h.rest after (subst (λ is. Instructs b after is) (sym e) (k then l)) }
+
+pub none_remain : {a b : Code} (all left : List Instruction) → left ≡ [] → Remains a b all left → Instructs a b all
+none_remain {b = b} all left e h = h.rest b (subst (λ is. Instructs b b is) (sym e) nothing_instructed)
+
+-- what is so of a loop that writes lines, unless memory is refused by now
+pub record Kept (begun now : Code) (it : Type 0) : Type 0 where
+  pub unless_refused : now.refused ≡ false → (begun.refused ≡ false) × it
 
 -- what opened the innermost frame stands where it does
 pub within_stays : (w : Option ℕ) → within_moved (λ n. n) w ≡ w

@@ -1,6 +1,5 @@
 -- What is written of the statements and bodies of a program in memory.
-use Rattle.std.specs.Prelude.{◌≡◌, ℕ, suc, ◌+◌, ◌-◌, ◌^◌, min, List, [], ◌∷◌, ◌++◌, length, map, Option, None, Some, Bool, true, false, if◌then◌else◌, Result, OnOk}
-use Rattle.std.specs.declared.alloc.AllocError.{AllocError}
+use Rattle.std.specs.Prelude.{◌≡◌, ℕ, suc, ◌+◌, ◌-◌, ◌^◌, min, List, [], ◌∷◌, ◌++◌, length, map, Option, None, Some, Bool, true, false, if◌then◌else◌}
 use Rattle.aud_text.specs.declared.place.Pos.{Pos}
 use Rattle.aud_typed.specs.Tree as tree
 use Rattle.aud_typed.specs.Tree.{For, part_of, nothing, some, body, if_then, while_loop, for_loop}
@@ -10,13 +9,13 @@ use Rattle.aud_typed.specs.declared.program.Statement as memory
 use Rattle.aud_typed.specs.declared.program.Arm.{Arm}
 use Rattle.aud_typed.specs.declared.program.ForStatement.{ForStatement, out-ForStatement}
 use Rattle.aud_typed.specs.declared.program.EntryCallStatement.{EntryCallStatement, out-EntryCallStatement}
-use Rattle.aud_typed.specs.declared.program.AcceptStatement.{AcceptStatement}
+use Rattle.aud_typed.specs.declared.program.AcceptStatement.{AcceptStatement, out-AcceptStatement}
 use Rattle.aud_typed.specs.declared.program.SelectStatement.{SelectStatement, out-SelectStatement}
 use Rattle.aud_typed.specs.declared.program.Alternative.{Alternative}
 use Rattle.aud_typed.specs.declared.program.Unit as declared
 use Rattle.aud_typed.specs.declared.program.Entry.{Entry}
 use Rattle.aud_typed.specs.declared.program.EntryBody.{EntryBody}
-use Rattle.aud_typed.specs.Ties.View.{plain_integer, plain_boolean, plain_statements, statements_in, body_in, plain_entry, plain_alternative, alternatives_in, entry_call_in, accept_in, select_in}
+use Rattle.aud_typed.specs.Ties.View.{plain_integer, plain_boolean, plain_statements, statements_in, body_in, plain_entry, plain_alternative, alternatives_in, doing_in, entry_call_in, accept_in, select_in}
 use Rattle.aud_meaning.specs.declared.state.Construct.{Construct}
 use Rattle.aud_meaning.specs.Items.{no_body}
 use Rattle.aud_code.specs.Places.{Way}
@@ -26,8 +25,8 @@ use Rattle.aud_code.specs.Flat.{FlatLine, Flat}
 use Rattle.aud_code.specs.View.{plain_end}
 use Rattle.aud_code.specs.declared.line.Last.{Last}
 use Rattle.aud_code.specs.declared.line.Offer.{Offer}
-use Rattle.aud_layout.specs.Instructions.{condition_code, task_code, value_code, guards_code, delays_code}
-use Rattle.aud_layout.specs.Layout.{Around, ways_count, around_out, in_call, continues, line, end_line, part_place, stubs, guard_line_by, statement_size_by, part_size_by, offered_size_by, parts_from_by, bodies_from_by, statement_code_by, part_code_by, doing_code_by, offered_code_by, handlers_code_by, unit_code_by}
+use Rattle.aud_layout.specs.Instructions.{integer_code, condition_code, task_code, value_code, guards_code, delays_code}
+use Rattle.aud_layout.specs.Layout.{Around, ways_count, around_out, in_call, continues, line, end_line, doing_place, part_place, stubs, guard_line_by, statement_size_by, part_size_by, offered_size_by, parts_from_by, bodies_from_by, statement_code_by, part_code_by, doing_code_by, offered_code_by, handlers_code_by, unit_code_by}
 use Rattle.aud_layout.specs.Assembly.{within_moved, step_lines}
 use Rattle.aud_layout.specs.Written.{flat_step, written, written_bodies}
 
@@ -55,13 +54,27 @@ alternative_size a ways = offered_size_by flat_step (alone a) ways
 abbrev pub ended : Last → Pos → ℕ → Option ℕ → List FlatLine
 ended last at out within = flat.end (plain_end (record { last = last; at = at; out = out; within = within_moved (λ n. n) within })) ∷ []
 
--- these lines are written behind those that are there; nothing is said where memory is refused
-abbrev pub Writes : {X : Type 0} → Result X AllocError → (old new : List FlatLine) → List FlatLine → Type 0
-Writes result old new lines = OnOk result (new ≡ old ++ lines)
+-- what is written: whether memory was refused, and the lines
+pub record Code : Type 0 where
+  pub refused : Bool
+  pub lines : List FlatLine
+
+-- unless memory is refused by now, it was not before, and these lines are written behind those that were there
+pub record Writes (old new : Code) (lines : List FlatLine) : Type 0 where
+  pub unless_refused : new.refused ≡ false → (old.refused ≡ false) × (new.lines ≡ old.lines ++ lines)
+
+-- the same of these instructions
+pub record Instructs (old new : Code) (is : List Instruction) : Type 0 where
+  pub writes : Writes old new (map flat.instructs is)
 
 -- lines by the place of the first and what surrounds them
-abbrev pub WritesInside : {X : Type 0} → Result X AllocError → (old new : List FlatLine) → Around → (ℕ → Around → List FlatLine) → Type 0
-WritesInside result old new a lines = Writes result old new (lines (length old) a)
+abbrev pub WritesInside : (old new : Code) → Around → (ℕ → Around → List FlatLine) → Type 0
+WritesInside old new a lines = Writes old new (lines (length old.lines) a)
+
+-- no line is written; unless memory is refused by now, it was not before, and this is so
+pub record Finds (old new : Code) (it : Type 0) : Type 0 where
+  pub same : new.lines ≡ old.lines
+  pub unless_refused : new.refused ≡ false → (old.refused ≡ false) × it
 
 -- the right side of an operator, and the operator
 abbrev pub right_code : Connective → tree.BooleanExpression → List Instruction
@@ -116,11 +129,24 @@ arm_lines arm more place next around =
     let behind = inside + statement_size_by flat_step ss (ways_count around) in
     step_lines (λ n. n) (line step ((if more then behind else next) ∷ inside ∷ []) [] None around) ++ statement_lines ss inside next around
 
+-- its step
+abbrev pub arm_step : Arm → Bool → (place next : ℕ) → Around → List FlatLine
+arm_step arm more place next around =
+    let ss = statements_in arm.statements in
+    let step = if_then arm.at (plain_boolean arm.condition) ss nothing in
+    let inside = flat_step step place in
+    let behind = inside + statement_size_by flat_step ss (ways_count around) in
+    step_lines (λ n. n) (line step ((if more then behind else next) ∷ inside ∷ []) [] None around)
+
 -- the step of a `while`; its statements stand behind it
 abbrev pub while_lines : Pos → tree.BooleanExpression → (place next out : ℕ) → Option ℕ → List FlatLine
 while_lines at c place next out within =
     let step = while_loop at c (tree.null at) in
     step_lines (λ n. n) (line step (next ∷ flat_step step place ∷ []) [] None (in_call within out))
+
+-- how many instructions the bounds of a `for` take
+abbrev pub bounds : ForStatement → ℕ
+bounds s = length (integer_code (plain_integer (out-ForStatement s).first)) + length (integer_code (plain_integer (out-ForStatement s).last))
 
 -- the two steps of a `for`, the first one at a place, the second one at the place again, behind which its statements stand
 abbrev pub for_lines : ForStatement → (place again next out : ℕ) → Option ℕ → List FlatLine
@@ -145,6 +171,10 @@ call_step s place next a =
 -- the step of an accept, which leads to what it does
 abbrev pub accept_lines : AcceptStatement → (start next out : ℕ) → Option ℕ → List FlatLine
 accept_lines s start next out within = written (line (accept_in s) (next ∷ []) (start ∷ []) None (in_call within out) ∷ [])
+
+-- that step at a place, behind which stands what the accept does
+abbrev pub accept_step : AcceptStatement → (place next out : ℕ) → Option ℕ → List FlatLine
+accept_step s place next out within = accept_lines s (doing_place (doing_in (out-AcceptStatement s).doing) (place + 1) next) next out within
 
 -- whose entry is called
 abbrev pub callee_code : tree.Callee → List Instruction

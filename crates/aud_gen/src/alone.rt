@@ -1,32 +1,30 @@
 // The lines of statements that hold no others: one step each.
 
-ghost use Rattle.aud_typed.specs.Ties.View.{plain_statement};
+ghost use Rattle.std.specs.Prelude.{length};
+ghost use Rattle.aud_typed.specs.Tree.{declare_tasks};
+ghost use Rattle.aud_typed.specs.Ties.View.{plain_statement, plain_tasks};
+ghost use Rattle.aud_layout.specs.Layout.{in_call};
 ghost use Rattle.aud_layout.specs.Leading.{around};
-ghost use Rattle.aud_gen.specs.Writes.{statement_lines, IsAlone, WritesInside};
+ghost use Rattle.aud_gen.specs.Writes.{statement_lines, IsAlone, Writes, WritesInside};
 
-use crate::writer::{Writer, Written};
+use crate::writer::Writer;
 use aud_code::line::{Among, Ending};
 use aud_layout::ways::Ways;
-use aud_typed::program::Statement;
+use aud_text::place::Pos;
+use aud_typed::program::{Statement, Tasks};
 
 impl Writer {
-    /// A statement's step, from which these ways lead out. Its exceptions go to the place `out`; behind it comes the step at the place
-    /// `next`.
-    pub(crate) fn write_alone(
-        &mut self,
-        s: &Statement,
-        ways: &Ways,
-        out: usize,
-        next: usize,
-    ) -> Written
+    /// A statement's step, from which these ways lead out. Its exceptions go to the place `out`; behind it comes the
+    /// step at the place `next`.
+    pub(crate) fn write_alone(&mut self, s: &Statement, ways: &Ways, out: usize, next: usize)
         requires { IsAlone s.now }
-        ensures { WritesInside result self.old self.new (around out ways.now) (λ place a.
+        ensures { WritesInside self.old self.new (around out ways.now) (λ place a.
             statement_lines (plain_statement s.now) place next a) }
     {
         match s {
             Statement::Declare(at, up_to, e) => {
                 let again = self.place();
-                self.write_value(e)?;
+                self.write_value(e);
                 let up_to = *up_to;
                 self.end_statement(
                     Ending::Declare { up_to, again },
@@ -47,17 +45,17 @@ impl Writer {
             }
             Statement::Null(at) => { self.end_statement(Ending::Null, next, *at, out, ways.within) }
             Statement::Assign(at, target, e) => {
-                self.write_reference(target)?;
-                self.write_value(e)?;
+                self.write_reference(target);
+                self.write_value(e);
                 self.end_statement(Ending::Assign, next, *at, out, ways.within)
             }
             Statement::Put(at, t) => {
-                self.write_text(t)?;
+                self.write_text(t);
                 self.end_statement(Ending::Put, next, *at, out, ways.within)
             }
             Statement::Exit(at, further, condition) => {
                 let way = ways.exit(*further, next);
-                self.write_boolean(condition)?;
+                self.write_boolean(condition);
                 self.end_statement(Ending::Exit(way), next, *at, out, ways.within)
             }
             Statement::Raise(at, exception) => {
@@ -70,19 +68,19 @@ impl Writer {
                 self.end_statement(Ending::Return(ways.back), next, *at, out, ways.within)
             }
             Statement::ReturnValue(at, e) => {
-                self.write_value(e)?;
+                self.write_value(e);
                 self.end_statement(Ending::ReturnValue(ways.back), next, *at, out, ways.within)
             }
             Statement::ProcedureCall(at, calling) => {
-                self.write_calling(calling)?;
+                self.write_calling(calling);
                 self.end_statement(Ending::Call(calling.unit), next, *at, out, ways.within)
             }
             Statement::OwnEntryCall(at, arguments, form) => {
-                self.write_called(arguments, form)?;
+                self.write_called(arguments, form);
                 self.end_statement(Ending::OwnCall, next, *at, out, ways.within)
             }
             Statement::OperationCall(at, object, calling) => {
-                self.write_calling(calling)?;
+                self.write_calling(calling);
                 let among = Among::Operation {
                     object: *object,
                     unit: calling.unit,
@@ -90,11 +88,10 @@ impl Writer {
                 self.concern(among, next, *at, out, ways.within)
             }
             Statement::DeclareTasks(at, tasks) => {
-                let tasks = tasks.try_clone(self.alloc())?;
-                self.concern(Among::DeclareTasks(tasks), next, *at, out, ways.within)
+                self.write_tasks(tasks, next, *at, out, ways.within)
             }
             Statement::DeclareObject(at, declaration, components) => {
-                self.write_object(components)?;
+                self.write_object(components);
                 let among = Among::DeclareObject(*declaration);
                 self.concern(among, next, *at, out, ways.within)
             }
@@ -102,11 +99,11 @@ impl Writer {
                 self.concern(Among::Activated, next, *at, out, ways.within)
             }
             Statement::Delay(at, e) => {
-                self.write_delay(e)?;
+                self.write_delay(e);
                 self.concern(Among::Delay, next, *at, out, ways.within)
             }
             Statement::Abort(at, tasks) => {
-                self.write_names(tasks)?;
+                self.write_names(tasks);
                 self.concern(Among::Abort, next, *at, out, ways.within)
             }
             Statement::If(_)
@@ -117,6 +114,24 @@ impl Writer {
             | Statement::EntryCall(_)
             | Statement::Accept(_)
             | Statement::Select(_) => unreachable!(),
+        }
+    }
+
+    // The step that declares tasks.
+    fn write_tasks(
+        &mut self,
+        tasks: &Tasks,
+        next: usize,
+        at: Pos,
+        out: usize,
+        within: Option<usize>,
+    )
+        ensures { Writes self.old self.new
+            (statement_lines (declare_tasks at (plain_tasks tasks.now)) (length self.old.lines) next (in_call within out)) }
+    {
+        match tasks.try_clone(self.alloc()) {
+            Ok(tasks) => self.concern(Among::DeclareTasks(tasks), next, at, out, within),
+            Err(_) => self.refuse(),
         }
     }
 }

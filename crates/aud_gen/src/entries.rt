@@ -1,24 +1,22 @@
 // The steps of entry calls and accepts.
 
-ghost use Rattle.std.specs.Prelude.{◌≡◌, ◌∷◌, [], length, map, IfOk};
+ghost use Rattle.std.specs.Prelude.{◌≡◌, ◌∷◌, [], length, IfOk};
 ghost use Rattle.aud_typed.specs.declared.program.AcceptStatement.{out-AcceptStatement};
 ghost use Rattle.aud_typed.specs.declared.program.EntryCallStatement.{out-EntryCallStatement};
 ghost use Rattle.aud_typed.specs.Tree.{part_of};
 ghost use Rattle.aud_typed.specs.Ties.View.{alternatives_in, doing_in, entry_call_in, plain_callee, plain_form, plain_statements};
 ghost use Rattle.aud_meaning.specs.Statements.{has_else, region_of};
-ghost use Rattle.aud_code.specs.Flat.{instructs};
 ghost use Rattle.aud_code.specs.View.{behind_offers, beside, bodies_in, bodies_offered, plain_among, plain_kind};
 ghost use Rattle.aud_layout.specs.Instructions.{call_end, delays_code, form_kind, guards_code, instructions_of};
-ghost use Rattle.aud_layout.specs.Layout.{bodies_from_by, doing_place, part_place, parts_from_by};
+ghost use Rattle.aud_layout.specs.Layout.{bodies_from_by, doing_place, part_place, parts_from_by, ways_count};
 ghost use Rattle.aud_layout.specs.Leading.{around};
 ghost use Rattle.aud_layout.specs.Written.{flat_step};
-ghost use Rattle.aud_gen.specs.Writes.{accept_lines, alone, call_lines, call_step, choice_code, select_lines, select_step, IsOffer, Writes, WritesInside};
+ghost use Rattle.aud_gen.specs.Writes.{accept_step, alone, call_lines, call_step, choice_code, select_lines, select_step, IsOffer, Instructs, Writes, WritesInside};
 
 use crate::lengths::{
-    alternative_length, alternatives_length, call_length, choice_length, delay_length,
-    doing_length, exact, list_length, place_behind,
+    alternative_length, call_length, choice_length, delay_length, doing_length, place_behind,
 };
-use crate::writer::{Writer, Written};
+use crate::writer::Writer;
 use aud_code::instruction::Instruction;
 use aud_code::line::{Among, CallKind, Offer};
 use aud_layout::ways::Ways;
@@ -38,16 +36,16 @@ impl Writer {
         ways: &Ways,
         out: usize,
         next: usize,
-    ) -> Written
-        ensures { WritesInside result self.old self.new (around out ways.now) (λ place a.
+    )
+        ensures { WritesInside self.old self.new (around out ways.now) (λ place a.
             call_step call.now place next a) }
     {
         let step = call_length(call).saturating_add(1);
-        let inside = place_behind(self.place(), step)?;
-        let second = place_behind(inside, list_length(&call.after, ways.count()?))?;
+        let inside = self.behind(self.place(), step);
+        let second = self.behind_list(inside, &call.after, ways);
         let then = part_place(&call.after, inside, next);
         let otherwise = part_place(&call.otherwise, second, next);
-        self.write_call(call, then, otherwise, out, ways.within)
+        self.write_call(call, then, otherwise, out, ways.within);
     }
 
     // That step, which leads to the place `next` behind the call, and to the place `otherwise` where the call is left.
@@ -58,40 +56,40 @@ impl Writer {
         otherwise: usize,
         out: usize,
         within: Option<usize>,
-    ) -> Written
-        ensures { Writes result self.old self.new
+    )
+        ensures { Writes self.old self.new
             (call_lines call.now next otherwise out within) }
     {
-        self.write_call_code(call)?;
-        self.concern(call_of(call, otherwise), next, call.at, out, within)
+        self.write_call_code(call);
+        self.concern(call_of(call, otherwise), next, call.at, out, within);
     }
 
     // Whose entry is called, the arguments, and the time that the call waits.
-    fn write_call_code(&mut self, call: &EntryCallStatement) -> Written
-        ensures { Writes result self.old self.new
-            (map instructs (instructions_of (entry_call_in call.now))) }
+    fn write_call_code(&mut self, call: &EntryCallStatement)
+        ensures { Instructs self.old self.new (instructions_of (entry_call_in call.now)) }
     {
-        self.write_callee(&call.callee)?;
-        self.write_called(&call.arguments, &call.form)
+        self.write_callee(&call.callee);
+        self.write_called(&call.arguments, &call.form);
     }
 
-    /// The step of an accept. What it does begins at the place `body`, and the step `next` comes behind it.
+    /// The step of an accept. Behind it stands what the accept does, and then comes the step `next`.
     pub fn write_accept(
         &mut self,
         accept: &AcceptStatement,
-        body: usize,
         next: usize,
         out: usize,
         within: Option<usize>,
-    ) -> Written
-        ensures { Writes result self.old self.new (accept_lines accept.now body next out within) }
+    )
+        ensures { Writes self.old self.new (accept_step accept.now (length self.old.lines) next out within) }
     {
+        let inside = self.behind(self.place(), 1);
+        let body = doing_place(&accept.doing, inside, next);
         let among = Among::Accept {
             entry: accept.entry,
             region: region_of(&accept.doing),
             body,
         };
-        self.concern(among, next, accept.at, out, within)
+        self.concern(among, next, accept.at, out, within);
     }
 
     /// The step of a selective accept. Behind it stands what lies in its alternatives, then the statements behind its
@@ -102,18 +100,18 @@ impl Writer {
         ways: &Ways,
         out: usize,
         next: usize,
-    ) -> Written
-        ensures { WritesInside result self.old self.new (around out ways.now) (λ place a.
+    )
+        ensures { WritesInside self.old self.new (around out ways.now) (λ place a.
             select_step select.now place next a) }
     {
         let own = self.place();
-        let count = ways.count()?;
         let step = choice_length(&select.alternatives).saturating_add(1);
-        let inside = place_behind(own, step)?;
-        let second = place_behind(inside, alternatives_length(&select.alternatives, count))?;
-        let otherwise = part_place(&select.otherwise, second, next);
-        let offers = offers(self.alloc(), &select.alternatives, inside, next, count)?;
-        self.write_choice(select, own, otherwise, offers, out, ways.within)
+        let inside = self.behind(own, step);
+        let otherwise = self.behind_offered(inside, select, ways, next);
+        match offers_within(self.alloc(), &select.alternatives, inside, next, ways) {
+            Ok(offers) => self.write_choice(select, own, otherwise, offers, out, ways.within),
+            Err(_) => self.refuse(),
+        }
     }
 
     // That step, which begins at the place `own`, and leads to the place `otherwise` where no alternative is open, or
@@ -126,84 +124,77 @@ impl Writer {
         offers: Vec<Offer>,
         out: usize,
         within: Option<usize>,
-    ) -> Written
-        ensures { Writes result self.old self.new (select_lines select.now own otherwise
+    )
+        ensures { Writes self.old self.new (select_lines select.now own otherwise
             (behind_offers offers.items) (bodies_offered offers.items) out within) }
     {
-        self.write_choice_code(&select.alternatives)?;
+        self.write_choice_code(&select.alternatives);
         let among = Among::Select {
             has_else: has_else(&select.otherwise),
             own,
             offers,
         };
-        self.concern(among, otherwise, select.at, out, within)
+        self.concern(among, otherwise, select.at, out, within);
     }
 
     // The guards of alternatives, the mark, and the delays of those that are open.
-    fn write_choice_code(&mut self, alternatives: &[Alternative]) -> Written
-        ensures { Writes result self.old self.new
-            (map instructs (choice_code (alternatives_in alternatives.now))) }
+    fn write_choice_code(&mut self, alternatives: &[Alternative])
+        ensures { Instructs self.old self.new (choice_code (alternatives_in alternatives.now)) }
     {
-        self.write_openings(alternatives)?;
-        self.instruct(Instruction::Mark)?;
-        self.write_times(alternatives)
+        self.write_openings(alternatives);
+        self.instruct(Instruction::Mark);
+        self.write_times(alternatives);
     }
 
-    fn write_openings(&mut self, alternatives: &[Alternative]) -> Written
-        ensures { Writes result self.old self.new
-            (map instructs (guards_code 1 (alternatives_in alternatives.now))) }
+    fn write_openings(&mut self, alternatives: &[Alternative])
+        ensures { Instructs self.old self.new (guards_code 1 (alternatives_in alternatives.now)) }
     {
         for number in 0..alternatives.len() {
-            self.write_opening(number + 1, &alternatives[number])?;
+            self.write_opening(number + 1, &alternatives[number]);
         }
-        Ok(())
     }
 
     // The guard of the alternative of this number.
-    fn write_opening(&mut self, number: usize, alternative: &Alternative) -> Written
-        ensures { Writes result self.old self.new
-            (map instructs (guards_code number (alone alternative.now))) }
+    fn write_opening(&mut self, number: usize, alternative: &Alternative)
+        ensures { Instructs self.old self.new (guards_code number (alone alternative.now)) }
     {
         match alternative {
             Alternative::Accept { guard, accept, .. } => {
-                self.write_boolean(guard)?;
+                self.write_boolean(guard);
                 self.instruct(Instruction::OpensAccept(open_accept(number, accept)))
             }
             Alternative::Delay { guard, .. } => {
-                self.write_boolean(guard)?;
+                self.write_boolean(guard);
                 self.instruct(Instruction::OpensDelay(number))
             }
             Alternative::Terminate { guard } => {
-                self.write_boolean(guard)?;
+                self.write_boolean(guard);
                 self.instruct(Instruction::OpensTerminate)
             }
         }
     }
 
-    fn write_times(&mut self, alternatives: &[Alternative]) -> Written
-        ensures { Writes result self.old self.new
-            (map instructs (delays_code 1 (alternatives_in alternatives.now))) }
+    fn write_times(&mut self, alternatives: &[Alternative])
+        ensures { Instructs self.old self.new (delays_code 1 (alternatives_in alternatives.now)) }
     {
         for number in 0..alternatives.len() {
-            self.write_time(number + 1, &alternatives[number])?;
+            self.write_time(number + 1, &alternatives[number]);
         }
-        Ok(())
     }
 
     // The delay of the alternative of this number, if it has one.
-    fn write_time(&mut self, number: usize, alternative: &Alternative) -> Written
-        ensures { Writes result self.old self.new
-            (map instructs (delays_code number (alone alternative.now))) }
+    fn write_time(&mut self, number: usize, alternative: &Alternative)
+        ensures { Instructs self.old self.new (delays_code number (alone alternative.now)) }
     {
         match alternative {
-            Alternative::Accept { .. } => Ok(()),
+            Alternative::Accept { .. } => {}
             Alternative::Delay { delay, .. } => {
-                let passed = exact(delay_length(delay).saturating_add(1))?;
-                self.instruct(Instruction::PassUnlessNext(number, passed))?;
-                self.write_delay(delay)?;
+                let passed = self.behind(delay_length(delay), 1);
+                self.instruct(Instruction::PassUnlessNext(number, passed));
+                self.write_delay(delay);
                 self.instruct(Instruction::SetTime(number))
             }
-            Alternative::Terminate { .. } => Ok(()),
+            Alternative::Terminate { .. } => {}
         }
     }
 }
@@ -296,6 +287,22 @@ fn offers(
         first = place_behind(first, alternative_length(alternative, ways))?;
     }
     Ok(offers)
+}
+
+// The same where these ways lead out.
+fn offers_within(
+    alloc: Global,
+    alternatives: &[Alternative],
+    place: usize,
+    next: usize,
+    ways: &Ways,
+) -> Result<Vec<Offer>, AllocError>
+    ensures { IfOk result (λ offers. (behind_offers offers.items ≡ parts_from_by flat_step
+        (alternatives_in alternatives.now) place next (ways_count (around 0 ways.now)))
+        × (bodies_offered offers.items ≡ bodies_from_by flat_step
+        (alternatives_in alternatives.now) place next (ways_count (around 0 ways.now)))) }
+{
+    offers(alloc, alternatives, place, next, ways.count()?)
 }
 
 // Where an alternative leads.

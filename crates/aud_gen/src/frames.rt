@@ -6,7 +6,6 @@ ghost use Rattle.aud_code.specs.View.{plain_line};
 ghost use Rattle.aud_layout.specs.Opened.{opened_in, BodiesCount};
 ghost use Rattle.aud_gen.specs.Opening.{level_in, AreCounted, AreOrdered, Grows, StepWithin};
 
-use crate::writer::Written;
 use aud_code::line::Line;
 use aud_layout::sum::sum;
 use aud_typed::program::Unit;
@@ -47,7 +46,12 @@ fn start(starts: &[usize], spare: usize, body: usize) -> usize
 }
 
 // Those of a body's lines, up to its end; directly in it there are so many.
-fn count_body(seen: &mut Vec<usize>, lines: &[Line], own: usize, end: usize) -> Written
+fn count_body(
+    seen: &mut Vec<usize>,
+    lines: &[Line],
+    own: usize,
+    end: usize,
+) -> Result<(), AllocError>
     requires from { length seen.old.items ≤ end }
     requires within { end ≤ length lines.now }
     ensures grown { OnOk result (Grows seen.old.items seen.new.items) }

@@ -297,43 +297,24 @@ fn time_length(alternative: &Alternative) -> usize
     }
 }
 
-/// A length that has not stopped at the largest number.
+/// The place behind so many lines that stand at a place.
 ///
 /// # Errors
 ///
-/// Memory is refused where it has, since no memory holds such code.
-pub fn exact(length: usize) -> Result<usize, AllocError>
-    ensures same { IfOk result (λ n. n ≡ length) }
+/// Memory is refused where it or their number has stopped at the largest number, since no memory holds such code.
+pub fn place_behind(place: usize, lines: usize) -> Result<usize, AllocError>
+    ensures same { IfOk result (λ n. n ≡ place + lines) }
     ensures whole { IfOk result (λ n. n < 2 ^ 64 - 1) }
 {
-    if length < usize::MAX {
-        Ok(length)
+    let behind = place.saturating_add(lines);
+    if behind < usize::MAX {
+        Ok(behind)
     } else {
         Err(AllocError)
     }
 }
 
-/// The place behind so many lines.
-///
-/// # Errors
-///
-/// Memory is refused where it or their number has stopped at the largest number.
-pub fn place_behind(place: usize, lines: usize) -> Result<usize, AllocError>
-    ensures same { IfOk result (λ n. n ≡ place + lines) }
-    ensures whole { IfOk result (λ n. n < 2 ^ 64 - 1) }
-{
-    exact(place.saturating_add(lines))
-}
-
-/// The place behind a statement that stands at a place.
-pub fn behind_statement(place: usize, s: &Statement, ways: usize) -> Result<usize, AllocError>
-    ensures { IfOk result (λ n.
-        n ≡ place + statement_size_by flat_step (plain_statement s.now) ways) }
-{
-    place_behind(place, statement_length(s, ways))
-}
-
-/// The same of statements.
+/// The place behind statements that stand at a place.
 pub fn behind_statements(place: usize, ss: &Statements, ways: usize) -> Result<usize, AllocError>
     ensures { IfOk result (λ n.
         n ≡ place + statement_size_by flat_step (statements_in ss.now) ways) }

@@ -9,6 +9,7 @@ mod frames;
 mod lengths;
 mod objects;
 mod operands;
+mod places;
 mod program;
 mod statements;
 mod writer;

@@ -10,10 +10,9 @@ ghost use Rattle.aud_gen.specs.Opening.{body_in_type, frames_before, level_in};
 ghost use Rattle.aud_gen.specs.Writes.{unit_lines, units_code, Writes};
 
 use crate::frames::frames;
-use crate::lengths::{exact, place_of_end};
 use crate::objects::write_barriers;
 use crate::operands::operands;
-use crate::writer::{Writer, Written};
+use crate::writer::Writer;
 use aud_code::line::Code;
 use aud_code::sound_code::{SoundCode, verify};
 use aud_layout::ways::Ways;
@@ -24,13 +23,13 @@ use std::alloc::{AllocError, Global};
 
 impl Writer {
     // The body of a procedure or task.
-    fn write_unit(&mut self, body: &Body) -> Written
-        ensures { Writes result self.old self.new
-            (unit_lines (body_in body.now) (length self.old)) }
+    fn write_unit(&mut self, body: &Body)
+        ensures { Writes self.old self.new
+            (unit_lines (body_in body.now) (length self.old.lines)) }
     {
-        let last = exact(place_of_end(body, self.place(), 1))?;
+        let last = self.end_of_unit(body);
         let ways = Ways::of_body(self.alloc(), None, last);
-        self.write_body(body, Construct::Unit, &ways, last, 0, last)
+        self.write_body(body, Construct::Unit, &ways, last, 0, last);
     }
 }
 
@@ -56,11 +55,11 @@ fn write_code(
     let mut starts = Vec::new(alloc);
     for unit in units {
         starts.push(writer.place())?;
-        writer.write_unit(&unit.body)?;
+        writer.write_unit(&unit.body);
     }
     let spare = writer.place();
-    writer.write_idle()?;
-    let lines = writer.into_lines();
+    writer.write_idle();
+    let lines = writer.finish()?;
     let operands = operands(alloc, &lines)?;
     let seen = frames(alloc, &lines, &starts, spare, units)?;
     let tasks = task_bodies(alloc, types)?;

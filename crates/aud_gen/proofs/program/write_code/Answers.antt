@@ -15,11 +15,13 @@ loop-unit-preserved c =
     let b = body_in u.body in
     let rest = bodies_in (drop (c.loop-unit.unit-index + 1) units) in
     let first : bodies_in (drop c.loop-unit.unit-index units) ≡ b ∷ rest = ap bodies_in (dropped units c.loop-unit.unit-index u (omega arith) c.unit-item.is) in
-    let now = c.loop-unit.writer in
-    let new = c.write_unit.new.self in
+    let now = c.loop-unit.writer.lines in
+    let new = c.write_unit.new.self.lines in
     let starts = c.loop-unit.starts.items in
-    let h = c.in_ok-write_unit.ensures in
-    let inv = c.loop-unit.invariant in (
+    λ e.
+    let unit = c.write_unit.ensures.unless_refused e in
+    let h = unit.1 in
+    let inv = c.loop-unit.invariant unit.0 in (
       one_unit b rest now new _ h (ap (with_units now) (sym first) ∙ inv.0),
       (one_start b rest starts c.push.new.self.items _ now new h (c.in_ok-push.ensures.items ∙ ap (λ n. starts ++ n ∷ []) c.place.ensures) (ap (with_starts starts now) (sym first) ∙ inv.1.0), one_spare b rest _ now new h (ap (with_spare now) (sym first) ∙ inv.1.1)),
     )
@@ -28,22 +30,27 @@ pub returns-clause-code : goal.returns-clause-code
 returns-clause-code c =
     let units = c.args.units.now in
     let none : bodies_in (drop c.loop-unit.unit-index units) ≡ [] = ap bodies_in (drop_all c.loop-unit.unit-index units (omega (arith, c.loop-unit-test.false))) in
-    let inv = rw none at c.loop-unit.invariant in
-    units_written (bodies_in units) (barriers_in c.args.entries.now) c.loop-unit.writer (map plain_line c.into_lines-lines.result.items) c.loop-unit.starts.items c.place-spare.result (map plain_barrier c.in_ok-barriers.barriers.items) inv.0 inv.1.0 inv.1.1 c.place-spare.ensures (c.into_lines-lines.ensures ∙ c.in_ok-write_idle.ensures) c.in_ok-barriers.ensures.plain
+    let whole = c.in_ok-lines.ensures in
+    let idle = c.write_idle.ensures.unless_refused whole.0 in
+    let inv = rw none at c.loop-unit.invariant idle.0 in
+    units_written (bodies_in units) (barriers_in c.args.entries.now) c.loop-unit.writer.lines (map plain_line c.in_ok-lines.lines.items) c.loop-unit.starts.items c.place-spare.result (map plain_barrier c.in_ok-barriers.barriers.items) inv.0 inv.1.0 inv.1.1 c.place-spare.ensures (whole.1 ∙ idle.1) c.in_ok-barriers.ensures.plain
 
 pub frames-requires-clause-long : goal.frames-requires-clause-long
 frames-requires-clause-long c =
     let units = c.args.units.now in
     let none : bodies_in (drop c.loop-unit.unit-index units) ≡ [] = ap bodies_in (drop_all c.loop-unit.unit-index units (omega (arith, c.loop-unit-test.false))) in
-    let inv = rw none at c.loop-unit.invariant in
-    rw c.deref-3.ensures.value (written_long units c.loop-unit.writer c.loop-unit.starts.items inv.1.0)
+    let idle = c.write_idle.ensures.unless_refused c.in_ok-lines.ensures.0 in
+    let inv = rw none at c.loop-unit.invariant idle.0 in
+    rw c.deref-3.ensures.value (written_long units c.loop-unit.writer.lines c.loop-unit.starts.items inv.1.0)
 
 pub frames-requires-clause-order : goal.frames-requires-clause-order
 frames-requires-clause-order c =
     let units = c.args.units.now in
     let none : bodies_in (drop c.loop-unit.unit-index units) ≡ [] = ap bodies_in (drop_all c.loop-unit.unit-index units (omega (arith, c.loop-unit-test.false))) in
-    let inv = rw none at c.loop-unit.invariant in
-    let lines = c.into_lines-lines.result.items in
-    let grown = ap length (c.into_lines-lines.ensures ∙ c.in_ok-write_idle.ensures) ∙ length-append c.loop-unit.writer _ in
+    let whole = c.in_ok-lines.ensures in
+    let idle = c.write_idle.ensures.unless_refused whole.0 in
+    let inv = rw none at c.loop-unit.invariant idle.0 in
+    let lines = c.in_ok-lines.lines.items in
+    let grown = ap length (whole.1 ∙ idle.1) ∙ length-append c.loop-unit.writer.lines _ in
     let long : length (map plain_line lines) ≡ length lines = length-map lines plain_line in
-    rw (c.deref-2.ensures.value, c.deref-3.ensures.value) (written_ordered (bodies_in units) c.loop-unit.writer c.loop-unit.starts.items c.place-spare.result (length lines) inv.1.0 inv.1.1 c.place-spare.ensures (omega (arith, grown, long)))
+    rw (c.deref-2.ensures.value, c.deref-3.ensures.value) (written_ordered (bodies_in units) c.loop-unit.writer.lines c.loop-unit.starts.items c.place-spare.result (length lines) inv.1.0 inv.1.1 c.place-spare.ensures (omega (arith, grown, long)))

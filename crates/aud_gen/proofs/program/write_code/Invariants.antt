@@ -1,4 +1,4 @@
-use Rattle.std.proofs.Common.{◌≡◌, drop}
+use Rattle.std.proofs.Common.{◌≡◌, false, drop}
 use Rattle.aud_layout.specs.Layout.{units_code_by, starts_from_by, spare_from_by}
 use Rattle.aud_layout.specs.Written.{flat_step, written}
 use Rattle.aud_gen.specs.Writes.{bodies_in}
@@ -9,5 +9,6 @@ abbrev pub invariant-loop-unit : goal.invariant-loop-unit
 invariant-loop-unit l =
     let rest = bodies_in (drop l.unit-index l.units) in
     let all = bodies_in l.units in
-    (with_units l.writer rest ≡ written (units_code_by flat_step all 0))
-    × ((with_starts l.starts.items l.writer rest ≡ starts_from_by flat_step all 0) × (with_spare l.writer rest ≡ spare_from_by flat_step all 0))
+    l.writer.refused ≡ false →
+    (with_units l.writer.lines rest ≡ written (units_code_by flat_step all 0))
+    × ((with_starts l.starts.items l.writer.lines rest ≡ starts_from_by flat_step all 0) × (with_spare l.writer.lines rest ≡ spare_from_by flat_step all 0))

@@ -7,7 +7,7 @@ use Rattle.aud_code.specs.Instruction.{Ending}
 use Rattle.aud_code.specs.View.{beside, bodies_in, plain_among}
 use Rattle.aud_layout.specs.Assembly.{within_moved}
 use Rattle.aud_layout.specs.Instructions.{call_end, instructions_of}
-use Rattle.aud_gen.proofs.Entering.{whole_step}
+use Rattle.aud_gen.proofs.Entering.{one_step}
 use Rattle.aud_gen.proofs.writer.Writer.write_call.Goals as goal
 
 pub returns : goal.returns
@@ -21,4 +21,4 @@ returns c =
     ap (λ e. line e (beside among) (bodies_in among)) c.call_of.ensures.ending
     ∙ ap (λ ns. line ending ns (bodies_in among)) c.call_of.ensures.ways
     ∙ ap (line ending (c.args.otherwise ∷ [])) c.call_of.ensures.bodies in
-    whole_step c.concern.result c.args.self.now c.write_call_code.new.self c.concern.new.self (instructions_of (entry_call_in c.args.call.now)) (line (plain_among among) (beside among) (bodies_in among)) (line ending (c.args.otherwise ∷ []) []) same c.in_ok-write_call_code.ensures c.concern.ensures
+    one_step (instructions_of (entry_call_in c.args.call.now)) (line (plain_among among) (beside among) (bodies_in among)) (line ending (c.args.otherwise ∷ []) []) same c.write_call_code.ensures c.concern.ensures

@@ -1,21 +1,24 @@
-use Rattle.std.proofs.Common.{◌+◌, ◌++◌, map, ap, sym, ◌∙◌, arith, append-nil}
+use Rattle.std.proofs.Common.{◌+◌, ap, arith}
 use Rattle.std.proofs.lemmas.List.{drop_all}
 use Rattle.aud_typed.specs.Ties.View.{alternatives_in}
-use Rattle.aud_code.specs.Flat.{instructs}
 use Rattle.aud_layout.specs.Instructions.{delays_code}
 use Rattle.aud_gen.specs.Writes.{alone}
-use Rattle.aud_gen.proofs.Entering.{delays_from, next_delay, one_code}
+use Rattle.aud_gen.proofs.Entering.{delays_from, next_delay}
+use Rattle.aud_gen.proofs.Writing.{all_remain, none_remain, one_fewer}
 use Rattle.aud_gen.proofs.writer.Writer.write_times.Goals as goal
+
+pub loop-number-init : goal.loop-number-init
+loop-number-init c = all_remain _
 
 pub loop-number-preserved : goal.loop-number-preserved
 loop-number-preserved c =
     let xs = c.args.alternatives.now in
     let i = c.loop-number.number in
     let x = c.index-alternatives-number.result in
-    one_code c.loop-number.self c.write_time.new.self _ (delays_code (i + 1) (alone x)) (delays_from xs (i + 1)) (delays_from xs i) (next_delay xs i x (omega arith) c.index-alternatives-number.is) c.in_ok-write_time.ensures c.loop-number.invariant
+    one_fewer (delays_from xs 0) (delays_from xs i) (delays_code (i + 1) (alone x)) (delays_from xs (i + 1)) (next_delay xs i x (omega arith) c.index-alternatives-number.is) c.loop-number.invariant c.write_time.ensures
 
 pub returns : goal.returns
 returns c =
+    let xs = c.args.alternatives.now in
     let i = c.loop-number.number in
-    let none = ap (λ xs. c.loop-number.self ++ map instructs (delays_code (i + 1) (alternatives_in xs))) (drop_all i c.args.alternatives.now (omega arith)) in
-    sym (append-nil c.loop-number.self) ∙ sym none ∙ c.loop-number.invariant
+    none_remain (delays_from xs 0) (delays_from xs i) (ap (λ ys. delays_code (i + 1) (alternatives_in ys)) (drop_all i xs (omega arith))) c.loop-number.invariant
