@@ -9,7 +9,7 @@ ghost use Rattle.aud_typing.specs.Ties.Entities.{plain_entity};
 ghost use Rattle.aud_typing.specs.Ties.Typing.{in_box, Leaves};
 
 use aud_fault::fault::Least;
-use aud_names::behind::{Left, Made, both, boxed};
+use aud_names::behind::{Left, Made, add_last, both, boxed};
 use aud_names::names::{Meaning, Scope};
 use aud_names::resolution::note_no_value;
 use aud_names::rules::wrong_kind_of_name;
@@ -64,7 +64,7 @@ fn add(all: &mut Vec<TaskName>, task: Option<TaskName>) -> Made<()>
 {
     match task {
         None => Ok(()),
-        Some(task) => Ok(all.push(task)?),
+        Some(task) => add_last(all, task),
     }
 }
 

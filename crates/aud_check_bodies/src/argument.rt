@@ -14,7 +14,7 @@ use crate::assignment::{check_target, target_base};
 use crate::declaration::{given_value, known};
 use crate::formal::is_in;
 use aud_fault::fault::Least;
-use aud_names::behind::{Made, both};
+use aud_names::behind::{Made, add_last, both};
 use aud_names::names::{Meaning, NamedParameter, Object, Parameter, Scope};
 use aud_names::rules::{Base, base_asked, not_a_variable, right_type};
 use aud_syntax::tree::{Expression, Factor, Mode, Name, Primary, Relation, Simple, Term};
@@ -261,7 +261,7 @@ fn with_next(all: Option<Vec<Argument>>, next: Option<Argument>) -> Made<Option<
         drop(all);
         return Ok(None);
     };
-    all.push(next)?;
+    add_last(&mut all, next)?;
     Ok(Some(all))
 }
 

@@ -16,8 +16,8 @@ ghost use Rattle.aud_names.specs.Ties.Regions.{plain_region, plain_place, names_
 use crate::task::{task_rows, tasks};
 use aud_fault::fault::Least;
 use aud_names::array::{Kind, Scalar, bound, cells_of, new_meaning, row_between};
-use aud_names::behind::{Made, both};
-use aud_names::names::{Meaning, Object, Region, Scope};
+use aud_names::behind::{Made, add_last, both};
+use aud_names::names::{Meaning, Object, Region, Scope, insert};
 use aud_names::resolution::note_no_value;
 use aud_names::rules::{base_asked, declared_once, name_not_declared, right_type};
 use aud_syntax::tree::{Bound, Expression, Ident, Identifiers};
@@ -169,7 +169,7 @@ pub fn add_symbol(name: &Name, kind: Kind, region: &mut Region) -> Made<()>
     let names = region.names.checked_add(1).ok_or(AllocError)?;
     let name = name.try_clone(region.alloc)?;
     let meaning = new_meaning(kind, region.level, region.cells);
-    region.symbols.insert(name, meaning)?;
+    insert(&mut region.symbols, name, meaning)?;
     region.cells = cells;
     region.names = names;
     Ok(())
@@ -213,8 +213,7 @@ fn elaborate(
         ≡ plain_typed_statements elaborations.old.items
         ++ elaboration at (plain_region region.now) (plain_value value) ∷ []) }
 {
-    elaborations.push(Statement::Declare(at, region.names, value))?;
-    Ok(())
+    add_last(elaborations, Statement::Declare(at, region.names, value))
 }
 
 // What a mark stands for within a declaration of these names.
@@ -321,9 +320,9 @@ fn elaborate_arrays(
         ++ map (λ i. declare_array names.now.first.at subtype length) (names_in names.now)) }
 {
     let at = names.first.at;
-    elaborations.push(Statement::DeclareArray(at, subtype, length))?;
+    add_last(elaborations, Statement::DeclareArray(at, subtype, length))?;
     for _ in &names.others {
-        elaborations.push(Statement::DeclareArray(at, subtype, length))?;
+        add_last(elaborations, Statement::DeclareArray(at, subtype, length))?;
     }
     Ok(())
 }
@@ -395,7 +394,7 @@ fn declare_exception(
     if declared_once(ident, &region.symbols, faults) {
         let meaning = Meaning::Exception(Exception::Declared(exceptions.len()));
         let name = ident.name.try_clone(region.alloc)?;
-        region.symbols.insert(name, meaning)?;
+        insert(&mut region.symbols, name, meaning)?;
         let name = ident.name.try_clone(region.alloc)?;
         exceptions.push(name)?;
     }
@@ -437,7 +436,7 @@ pub fn declare_procedure(
 {
     if declared_once(ident, &region.symbols, faults) {
         let name = ident.name.try_clone(region.alloc)?;
-        region.symbols.insert(name, Meaning::Procedure(number))?;
+        insert(&mut region.symbols, name, Meaning::Procedure(number))?;
     }
     Ok(())
 }

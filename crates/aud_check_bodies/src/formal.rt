@@ -16,7 +16,7 @@ ghost use Rattle.aud_names.specs.Ties.Regions.{plain_region, plain_regions, plai
 use crate::declaration::{declare, subtype_mark};
 use aud_fault::fault::Least;
 use aud_names::array::{Kind, Scalar};
-use aud_names::behind::Made;
+use aud_names::behind::{Made, add_last};
 use aud_names::names::{NamedParameter, Parameter, Region, Scope};
 use aud_syntax::tree::{Formal, Ident, Identifiers, Mode};
 use aud_typed::program::Subtype;
@@ -81,8 +81,7 @@ fn add_one(
         ≡ profile.old.items ++ parameters_of (ident.now ∷ []) parameter) }
 {
     let name = ident.name.try_clone(alloc)?;
-    profile.push(NamedParameter { name, parameter })?;
-    Ok(())
+    add_last(profile, NamedParameter { name, parameter })
 }
 
 // Adds formals that are alike, one for each of the names.

@@ -9,7 +9,7 @@ ghost use Rattle.aud_names.specs.Ties.Regions.{names_in};
 ghost use Rattle.aud_typing.specs.Ties.Typing.{in_box, Leaves};
 
 use aud_fault::fault::Least;
-use aud_names::behind::{Left, Made, boxed};
+use aud_names::behind::{Left, Made, add_last, boxed};
 use aud_names::names::{Meaning, Scope};
 use aud_names::resolution::note_no_value;
 use aud_names::rules::{good_choice, name_not_declared, raise_in_handler};
@@ -189,10 +189,10 @@ fn add(name: &Ident, scope: &Scope<'_>, all: &mut Vec<Exception>) -> Made<()>
     ensures { OnOk result (all.new.items
         ≡ all.old.items ++ exceptions_of (name.now ∷ []) scope.now) }
 {
-    if let Some(exception) = exception_meant(scope.visible(&name.name)) {
-        all.push(exception)?;
+    match exception_meant(scope.visible(&name.name)) {
+        None => Ok(()),
+        Some(exception) => add_last(all, exception),
     }
-    Ok(())
 }
 
 fn exceptions_of(names: &Identifiers, scope: &Scope<'_>) -> Made<Vec<Exception>>

@@ -9,7 +9,7 @@ ghost use Rattle.aud_check_bodies.specs.Handlers.{is_others, choices_of};
 ghost use Rattle.aud_check_bodies.specs.Ties.Arms.{plain_arm, plain_arms, plain_handler, plain_parts, plain_sequence, plain_items, plain_accepted};
 
 use crate::handler::{choices_of, is_others};
-use aud_names::behind::{Left, Made, boxed};
+use aud_names::behind::{Left, Made, add_first, boxed};
 use aud_names::names::Scope;
 use aud_syntax::tree::{Body as SourceBody, Choices};
 use aud_text::place::Pos;
@@ -95,7 +95,7 @@ pub fn in_row(statements: Box<Statements>) -> Made<Vec<Statement>>
 {
     let Statements { first, others } = Box::into_inner(statements);
     let mut row = others;
-    row.insert(0, Box::into_inner(first))?;
+    add_first(&mut row, first)?;
     Ok(row)
 }
 

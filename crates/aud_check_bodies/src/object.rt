@@ -26,7 +26,7 @@ use crate::within::regions_within;
 use aud_fault::fault::Least;
 use aud_names::array::Kind;
 use aud_names::awaited::{AwaitedObject, AwaitedPart};
-use aud_names::behind::{Made, both};
+use aud_names::behind::{Made, add_last, both};
 use aud_names::names::{Access, Instance, NamedParameter, Region, Scope, Subprogram, frame_within};
 use aud_names::objects::{add_part, around_object, body_instance, object_frame, own_instance};
 use aud_names::parts::{ObjectPart, Part, PartKind};
@@ -70,13 +70,13 @@ fn add_object_part(of: Of, ident: &Ident, kind: PartKind, around: &mut Region) -
         is_private: of.is_private,
         kind,
     };
-    around.parts.push(ObjectPart {
+    let found = ObjectPart {
         object: of.object,
         name,
         at: ident.at,
         part,
-    })?;
-    Ok(())
+    };
+    add_last(&mut around.parts, found)
 }
 
 // Declares an operation or entry.
@@ -336,10 +336,11 @@ fn initial_values(
 {
     let first = initial_value(initial, subtype, scope, faults)?;
     let mut values = Vec::new(scope.alloc());
-    values.push(first)?;
+    add_last(&mut values, first)?;
     for _ in &names.others {
         let mut noted = Least::new();
-        values.push(initial_value(initial, subtype, scope, &mut noted)?)?;
+        let next = initial_value(initial, subtype, scope, &mut noted)?;
+        add_last(&mut values, next)?;
     }
     Ok(values)
 }
@@ -523,12 +524,12 @@ fn add_object(ident: &Ident, number: usize, region: &mut Region) -> Made<()>
 {
     add_symbol(&ident.name, Kind::Protected(number), region)?;
     let name = ident.name.try_clone(region.alloc)?;
-    region.objects.push(AwaitedObject {
+    let awaited = AwaitedObject {
         name,
         object: number,
         at: ident.at,
-    })?;
-    Ok(())
+    };
+    add_last(&mut region.objects, awaited)
 }
 
 // The same of one that is declared once; another name stays what it was.
@@ -556,8 +557,7 @@ fn elaborate_object(
         ≡ plain_typed_statements elaborations.old.items
         ++ declare_object at number (plain_values values.items) ∷ []) }
 {
-    elaborations.push(Statement::DeclareObject(at, number, values))?;
-    Ok(())
+    add_last(elaborations, Statement::DeclareObject(at, number, values))
 }
 
 // Declares what an object of this number declares, in regions that lie within these.
@@ -641,8 +641,7 @@ fn name_parts(around: Region, region: &mut Region) -> Made<()>
         ≡ with_object_parts around.parts.items (plain_region region.old)) }
 {
     let mut around = around;
-    region.parts.append(&mut around.parts)?;
-    Ok(())
+    region.parts.append(&mut around.parts)
 }
 
 // Adds an object of this number, and what is found behind its name, to the region that declares it.

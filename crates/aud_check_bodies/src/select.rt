@@ -17,7 +17,7 @@ use crate::delay::delay;
 use crate::entry_call::{EntryCalled, entry_called};
 use crate::tables::Tables;
 use aud_fault::fault::Least;
-use aud_names::behind::{Left, Made, both, boxed};
+use aud_names::behind::{Left, Made, add_first, both, boxed};
 use aud_names::names::{Meaning, Scope};
 use aud_names::resolution::{Denoted, is_value, resolve};
 use aud_names::rules::not_an_entry;
@@ -214,7 +214,7 @@ pub fn select_of(
 {
     let (first, others) = offered;
     let mut alternatives = others;
-    alternatives.insert(0, Box::into_inner(first))?;
+    add_first(&mut alternatives, first)?;
     let statement = boxed(
         alloc,
         SelectStatement {

@@ -9,8 +9,8 @@ ghost use Rattle.aud_check_bodies.specs.Ties.Tables.{plain_tables};
 
 use crate::made::null_at;
 use aud_names::array::length_between;
-use aud_names::behind::Made;
-use aud_names::names::{Meaning, NamedParameter, Object, Region, Scope};
+use aud_names::behind::{Made, add_last};
+use aud_names::names::{Meaning, NamedParameter, Object, Region, Scope, insert};
 use aud_syntax::tree::Ident;
 use aud_text::name::Name;
 use aud_text::place::Pos;
@@ -69,7 +69,7 @@ impl Tables {
     {
         let number = self.regions.len();
         let names = names_of(region)?;
-        self.regions.push(names)?;
+        add_last(&mut self.regions, names)?;
         Ok(number)
     }
 
@@ -77,8 +77,7 @@ impl Tables {
     pub fn keep_region(&mut self, alloc: Global) -> Made<()>
         ensures { OnOk result (plain_tables self.new ≡ region_kept (plain_tables self.old)) }
     {
-        self.regions.push(Vec::new(alloc))?;
-        Ok(())
+        add_last(&mut self.regions, Vec::new(alloc))
     }
 
     /// Puts the names of a region where its place was kept.
@@ -109,9 +108,9 @@ impl Tables {
         ensures { OnOk result (plain_tables self.new
             ≡ unit_kept profile.items (plain_tables self.old)) }
     {
-        self.profiles.push(profile)?;
-        self.units.push(no_body(alloc)?)?;
-        Ok(())
+        add_last(&mut self.profiles, profile)?;
+        let unit = no_body(alloc)?;
+        add_last(&mut self.units, unit)
     }
 
     /// Puts a unit where its place was kept.
@@ -141,8 +140,7 @@ impl Tables {
     {
         let unit = self.units.len();
         self.keep_unit(alloc, Vec::new(alloc))?;
-        self.tasks.push(TaskType { unit, entries })?;
-        Ok(())
+        add_last(&mut self.tasks, TaskType { unit, entries })
     }
 
     /// The number of the entry that is declared next.
@@ -157,9 +155,8 @@ impl Tables {
         ensures { OnOk result (plain_tables self.new
             ≡ entry_kept name profile.items (plain_tables self.old)) }
     {
-        self.entry_profiles.push(profile)?;
-        self.entries.push(Entry { name, body: None })?;
-        Ok(())
+        add_last(&mut self.entry_profiles, profile)?;
+        add_last(&mut self.entries, Entry { name, body: None })
     }
 
     /// Adds a protected entry of this name and with these formals, and keeps the place of its body, which has the next unit.
@@ -173,12 +170,11 @@ impl Tables {
             ≡ protected_entry_kept name profile.items (plain_tables self.old)) }
     {
         let unit = self.units.len();
-        self.entry_profiles.push(profile)?;
+        add_last(&mut self.entry_profiles, profile)?;
         self.keep_unit(alloc, Vec::new(alloc))?;
         let barrier = BooleanExpression::Truth(true);
         let body = Some(EntryBody { unit, barrier });
-        self.entries.push(Entry { name, body })?;
-        Ok(())
+        add_last(&mut self.entries, Entry { name, body })
     }
 
     /// Puts the barrier of an entry where its place was kept (RM 9.5.2(7)).
@@ -209,8 +205,7 @@ impl Tables {
         ensures { OnOk result (plain_tables self.new
             ≡ object_kept name entries.items (plain_tables self.old)) }
     {
-        self.objects.push(ProtectedObject { name, entries })?;
-        Ok(())
+        add_last(&mut self.objects, ProtectedObject { name, entries })
     }
 
     /// The formals of a unit.
@@ -308,11 +303,13 @@ fn add(name: &Name, meaning: Meaning, alloc: Global, names: &mut Vec<Named>) -> 
     ensures { OnOk result (plain_named_region names.new
         ≡ plain_named_region names.old ++ shown_before name.now (shown meaning) []) }
 {
-    if let Some(shown) = shown(meaning) {
-        let name = name.try_clone(alloc)?;
-        names.push(Named { name, shown })?;
+    match shown(meaning) {
+        None => Ok(()),
+        Some(shown) => {
+            let name = name.try_clone(alloc)?;
+            add_last(names, Named { name, shown })
+        }
     }
-    Ok(())
 }
 
 // The names of a region that have cells, in the order of their declarations.
@@ -344,7 +341,7 @@ pub fn loop_region(parameter: &Ident, scope: &Scope<'_>) -> Made<Region>
         constant: true,
         locked: false,
     };
-    region.symbols.insert(name, Meaning::Object(parameter))?;
+    insert(&mut region.symbols, name, Meaning::Object(parameter))?;
     region.cells = 1;
     region.names = 1;
     Ok(region)

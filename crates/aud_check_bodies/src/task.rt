@@ -20,8 +20,8 @@ use crate::tables::Tables;
 use aud_fault::fault::Least;
 use aud_names::array::{Kind, TaskRow, bound, cells_of, or_zero};
 use aud_names::awaited::Awaited;
-use aud_names::behind::Made;
-use aud_names::names::{Meaning, Region};
+use aud_names::behind::{Made, add_last};
+use aud_names::names::{Meaning, Region, insert};
 use aud_names::rules::{declared_once, no_matching_body, right_name_at_end};
 use aud_syntax::tree::{Bound, Ident, Identifiers, TaskDeclaration, TaskDefinition};
 use aud_text::name::Name;
@@ -77,8 +77,7 @@ fn create(
         is_array,
         length,
     };
-    elaborations.push(Statement::DeclareTasks(at, tasks))?;
-    Ok(())
+    add_last(elaborations, Statement::DeclareTasks(at, tasks))
 }
 
 // The creations of the tasks of these names.
@@ -163,8 +162,7 @@ fn add_task_symbol(task: &TaskDeclaration, number: usize, region: &mut Region) -
         return add_symbol(name, Kind::Task(number), region);
     }
     let name = name.try_clone(region.alloc)?;
-    region.symbols.insert(name, Meaning::TaskType(number))?;
-    Ok(())
+    insert(&mut region.symbols, name, Meaning::TaskType(number))
 }
 
 // Declares the name of a task or a task type, whose type and unit have these numbers. Its body is still to come.
@@ -185,12 +183,13 @@ fn declare_name(
         add_task_symbol(task, number, region)?;
         let name = ident.name.try_clone(region.alloc)?;
         let at = ident.at;
-        region.awaited.push(Awaited {
+        let awaited = Awaited {
             name,
             task_type: number,
             unit,
             at,
-        })?;
+        };
+        return add_last(&mut region.awaited, awaited);
     }
     Ok(())
 }
@@ -346,7 +345,7 @@ pub fn with_activation(of_task: bool, begin: Pos, elaborations: &mut Vec<Stateme
 {
     let activates = create_tasks(&*elaborations);
     if of_task {
-        elaborations.push(Statement::Activated(begin))?;
+        add_last(elaborations, Statement::Activated(begin))?;
     }
     Ok(activates)
 }

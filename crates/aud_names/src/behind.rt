@@ -30,6 +30,23 @@ pub fn boxed<T: Drop>(alloc: Global, part: T) -> Left<T>
     Ok(Box::new(alloc, part)?)
 }
 
+/// Adds a part to a list. Where memory is refused, `Vec::push` gives the part back, and a `?` behind it takes apart what holds it;
+/// here that is of any type.
+pub fn add_last<T: Drop>(all: &mut Vec<T>, next: T) -> Made<()>
+    ensures { OnOk result (all.new.items ≡ all.old.items ++ next ∷ []) }
+{
+    all.push(next)?;
+    Ok(())
+}
+
+/// Puts what is in a box before a list.
+pub fn add_first<T: Drop>(all: &mut Vec<T>, first: Box<T>) -> Made<()>
+    ensures { OnOk result (all.new.items ≡ first.value ∷ all.old.items) }
+{
+    all.insert(0, Box::into_inner(first))?;
+    Ok(())
+}
+
 /// Adds what is in a box to a list. It is not inlined, so that this does not stand in the stack frames of
 /// statements that lie in one another.
 #[inline(never)]

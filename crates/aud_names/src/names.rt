@@ -2,6 +2,8 @@
 
 ghost use Rattle.std.specs.Prelude.{◌≡◌, ◌∷◌, ◌&&◌, not, [], IfOk, OnOk};
 ghost use Rattle.std.specs.Option.{option_copied};
+ghost use Rattle.std.specs.Str.{bytes_eq};
+ghost use Rattle.indexmap.specs.IndexMap.{insert_entry};
 ghost use Rattle.aud_names.specs.Names.{Place as Plain, empty_region, named_in, predefined, declared, hiding, is_hidden, is_taken, own_hidden, with_own, visible, library, outermost, innermost, body_frame, next_frame, awaited_task, body_come, own_task, own_region, with_entry, with_entries, task_region, running, has_cell, is_declared, is_in_own_body, named_inside, entry_named, same_cell, is_cell_of, is_own, is_inside, is_in_function, is_around, is_countable};
 ghost use Rattle.aud_names.specs.Objects.{awaited_object, object_come, part_named};
 ghost use Rattle.aud_names.specs.Ties.Regions.{plain_region, plain_regions, plain_place, names_in, hidden_names};
@@ -164,6 +166,16 @@ pub enum Builtin {
 /// The names that a region declares, in the order of their declarations, and what they stand for.
 pub type Symbols = IndexMap<Name, Meaning>;
 
+/// Has a name stand for something. Where memory is refused, `IndexMap::insert` gives both back, and a `?` behind it takes apart
+/// what holds them; here that stands once.
+pub fn insert(symbols: &mut Symbols, name: Name, meaning: Meaning) -> Made<()>
+    ensures { OnOk result (symbols.new.entries
+        ≡ insert_entry bytes_eq symbols.old.entries name meaning) }
+{
+    symbols.insert(name, meaning)?;
+    Ok(())
+}
+
 /// A region of declarations (RM 8.1): its names, how many frames are further out than its own, the cells
 /// and the names of variables, constants, tasks and objects that its frame has so far, the tasks and the objects whose
 /// bodies are still to come, the entries of the tasks that it declares, what its objects declare, where it is
@@ -229,7 +241,7 @@ impl Region {
     {
         let mut library = Region::new(alloc, 0);
         let name = main.try_clone(alloc)?;
-        library.symbols.insert(name, Meaning::Procedure(0))?;
+        insert(&mut library.symbols, name, Meaning::Procedure(0))?;
         Ok(library)
     }
 
@@ -241,7 +253,7 @@ impl Region {
         let mut region = Region::new(alloc, level);
         let no_name = Name::from_source(alloc, &[])?;
         let own = own_task(level, task_type);
-        region.symbols.insert(no_name, Meaning::Task(own))?;
+        insert(&mut region.symbols, no_name, Meaning::Task(own))?;
         region.cells = 1;
         region.names = 1;
         region.own = Some(own.variable);
@@ -265,7 +277,7 @@ impl Region {
             owner: Owner::Single(own),
         };
         let name = name.try_clone(self.alloc)?;
-        self.symbols.insert(name, Meaning::Entry(entry))?;
+        insert(&mut self.symbols, name, Meaning::Entry(entry))?;
         Ok(())
     }
 
@@ -296,7 +308,7 @@ impl Region {
         let mut region = Region::new(alloc, level);
         let name = name.try_clone(alloc)?;
         let own = own_task(level, task_type);
-        region.symbols.insert(name, Meaning::Task(own))?;
+        insert(&mut region.symbols, name, Meaning::Task(own))?;
         Ok(region)
     }
 

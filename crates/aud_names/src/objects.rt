@@ -8,7 +8,7 @@ ghost use Rattle.aud_names.specs.Ties.Regions.{plain_region, plain_place};
 use crate::awaited::AwaitedPart;
 use crate::behind::Made;
 use crate::names::{
-    Access, Entry, Instance, Meaning, Object, Operation, Owner, Region, is_in_function,
+    Access, Entry, Instance, Meaning, Object, Operation, Owner, Region, insert, is_in_function,
 };
 use crate::parts::{ObjectPart, PartKind};
 use aud_text::name::Name;
@@ -89,7 +89,7 @@ pub fn add_part(name: &Name, kind: PartKind, instance: Instance, region: &mut Re
     };
     let name = name.try_clone(region.alloc)?;
     let meaning = part_meaning(kind, instance, cell);
-    region.symbols.insert(name, meaning)?;
+    insert(&mut region.symbols, name, meaning)?;
     region.cells = cells;
     region.names = names;
     Ok(())
@@ -144,7 +144,7 @@ pub fn around_object(
     let level = around.level.checked_add(1).ok_or(AllocError)?;
     let mut region = Region::new(around.alloc, level);
     let name = name.try_clone(around.alloc)?;
-    region.symbols.insert(name, Meaning::Protected(instance))?;
+    insert(&mut region.symbols, name, Meaning::Protected(instance))?;
     Ok(region)
 }
 
@@ -157,7 +157,7 @@ fn add_barred(name: &Name, region: &mut Region) -> Made<()>
         return Ok(());
     }
     let name = name.try_clone(region.alloc)?;
-    region.symbols.insert(name, Meaning::Barred)?;
+    insert(&mut region.symbols, name, Meaning::Barred)?;
     Ok(())
 }
 

@@ -17,5 +17,5 @@ returns c =
     let behind = tree.part_of (plain_items c.args.otherwise) in
     let made : List Alternative → tree.Statement = λ xs. tree.select c.args.at (alternatives_in xs) behind in
     let others = c.args.offered.1.items in
-    boxes plain_statement c.boxed-2.result (Select c.in_ok-statement.statement) _ c.boxed-2.ensures (select_open c.in_ok-statement.statement ∙ ap select_in c.in_ok-statement.ensures ∙ ap made c.in_ok-insert.ensures.items
-    ∙ ap (λ a. made (a ∷ others)) c.into_inner.ensures ∙ ap (λ z. tree.select c.args.at z behind) (alternatives_parts (c.args.offered.0.value ∷ others)))
+    boxes plain_statement c.boxed-2.result (Select c.in_ok-statement.statement) _ c.boxed-2.ensures (select_open c.in_ok-statement.statement ∙ ap select_in c.in_ok-statement.ensures ∙ ap made c.in_ok-add_first.ensures
+    ∙ ap (λ z. tree.select c.args.at z behind) (alternatives_parts (c.args.offered.0.value ∷ others)))

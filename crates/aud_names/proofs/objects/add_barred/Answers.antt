@@ -14,5 +14,5 @@ returns c =
     let known : is_declared name r.symbols ≡ false = search rules in
     let none : named_in name r.symbols ≡ None = search rules in
     let last = insert_entry-new bytes_eq c.args.region.now.symbols name Barred none in
-    let grown : c.insert.new.self.entries ≡ r.symbols ++ (name, Barred) ∷ [] = search rules in
+    let grown : c.insert.new.symbols.entries ≡ r.symbols ++ (name, Barred) ∷ [] = search rules in
     ap (λ l. record r { symbols = l }) grown ∙ sym (ap (λ (b : Bool). if b then r else more) known)

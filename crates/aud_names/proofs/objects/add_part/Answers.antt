@@ -18,7 +18,7 @@ returns c =
     let known : is_declared name r.symbols ≡ false = search rules in
     let none : named_in name r.symbols ≡ None = search rules in
     let last = insert_entry-new bytes_eq c.args.region.now.symbols name m none in
-    let grown : c.insert.new.self.entries ≡ r.symbols ++ (name, m) ∷ [] = search rules in
+    let grown : c.insert.new.symbols.entries ≡ r.symbols ++ (name, m) ∷ [] = search rules in
     let cells : c.in_ok-cells.cells ≡ r.cells + part_cells kind = search rules in
     let names : c.in_ok-names.names ≡ r.names + part_cells kind = search rules in
     ap (λ l. made l c.in_ok-cells.cells c.in_ok-names.names) grown ∙ ap (λ n. made (r.symbols ++ (name, m) ∷ []) n c.in_ok-names.names) cells ∙ ap (made (r.symbols ++ (name, m) ∷ []) (r.cells + part_cells kind)) names
