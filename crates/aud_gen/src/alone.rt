@@ -126,8 +126,8 @@ impl Writer {
         out: usize,
         within: Option<usize>,
     )
-        ensures { Writes self.old self.new
-            (statement_lines (declare_tasks at (plain_tasks tasks.now)) (length self.old.lines) next (in_call within out)) }
+        ensures { Writes self.old self.new (statement_lines (declare_tasks at
+            (plain_tasks tasks.now)) (length self.old.lines) next (in_call within out)) }
     {
         match tasks.try_clone(self.alloc()) {
             Ok(tasks) => self.concern(Among::DeclareTasks(tasks), next, at, out, within),

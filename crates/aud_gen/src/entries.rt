@@ -80,7 +80,8 @@ impl Writer {
         out: usize,
         within: Option<usize>,
     )
-        ensures { Writes self.old self.new (accept_step accept.now (length self.old.lines) next out within) }
+        ensures { Writes self.old self.new
+            (accept_step accept.now (length self.old.lines) next out within) }
     {
         let inside = self.behind(self.place(), 1);
         let body = doing_place(&accept.doing, inside, next);

@@ -43,7 +43,8 @@ impl Writer {
 
     /// The arguments of a call, and the time that it waits.
     pub fn write_called(&mut self, arguments: &[Argument], form: &CallForm)
-        ensures { Instructs self.old self.new (called_code (plain_arguments arguments.now) (plain_form form.now)) }
+        ensures { Instructs self.old self.new
+            (called_code (plain_arguments arguments.now) (plain_form form.now)) }
     {
         self.write_arguments(arguments);
         self.write_form(form)
@@ -81,7 +82,8 @@ impl Writer {
 
     /// The initial values of an object's components.
     pub fn write_object(&mut self, components: &[ValueExpression])
-        ensures { Instructs self.old self.new (BeginObject ∷ components_code (plain_values components.now)) }
+        ensures { Instructs self.old self.new
+            (BeginObject ∷ components_code (plain_values components.now)) }
     {
         self.instruct(Instruction::BeginObject);
         self.write_components(components)

@@ -28,8 +28,9 @@ fn count(ways: &Ways) -> usize
 impl Writer {
     /// Where a statement of a list leads, that is written next: behind it, or to the step `next` where it is the last.
     pub fn behind_listed(&mut self, s: &Statement, is_last: bool, ways: &Ways, next: usize) -> usize
-        ensures { Finds self.old self.new (result ≡ (if is_last then next else length self.old.lines
-            + statement_size_by flat_step (plain_statement s.now) (ways_count (around 0 ways.now)))) }
+        ensures { Finds self.old self.new (result ≡ (if is_last then next
+            else length self.old.lines + statement_size_by flat_step
+            (plain_statement s.now) (ways_count (around 0 ways.now)))) }
     {
         if is_last {
             next
@@ -40,8 +41,8 @@ impl Writer {
 
     // Behind a statement that is written next.
     fn behind_statement(&mut self, s: &Statement, ways: &Ways) -> usize
-        ensures { Finds self.old self.new (result ≡ length self.old.lines
-            + statement_size_by flat_step (plain_statement s.now) (ways_count (around 0 ways.now))) }
+        ensures { Finds self.old self.new (result ≡ length self.old.lines + statement_size_by
+            flat_step (plain_statement s.now) (ways_count (around 0 ways.now))) }
     {
         let length = statement_length(s, count(ways));
         self.behind(self.place(), length)
@@ -58,8 +59,8 @@ impl Writer {
 
     /// The same of statements of which there may be none.
     pub fn behind_list(&mut self, place: usize, ss: &[Statement], ways: &Ways) -> usize
-        ensures { Finds self.old self.new (result ≡ place
-            + part_size_by flat_step (part_of (plain_statements ss.now)) (ways_count (around 0 ways.now))) }
+        ensures { Finds self.old self.new (result ≡ place + part_size_by
+            flat_step (part_of (plain_statements ss.now)) (ways_count (around 0 ways.now))) }
     {
         let length = list_length(ss, count(ways));
         self.behind(place, length)
@@ -67,8 +68,8 @@ impl Writer {
 
     /// Behind what a body, which is written next, does before its statements.
     pub fn behind_elaborations(&mut self, body: &Body, ways: &Ways) -> usize
-        ensures { Finds self.old self.new (result ≡ length self.old.lines
-            + part_size_by flat_step (part_of (elaborations_in body.now)) (ways_count (around 0 ways.now))) }
+        ensures { Finds self.old self.new (result ≡ length self.old.lines + part_size_by
+            flat_step (part_of (elaborations_in body.now)) (ways_count (around 0 ways.now))) }
     {
         let length = elaborations_length(body, count(ways));
         self.behind(self.place(), length)
@@ -113,7 +114,8 @@ impl Writer {
     ) -> usize
         ensures { (let s = out-SelectStatement select.now in
             Finds self.old self.new (result ≡ part_place (part_of (plain_statements s.otherwise.items))
-            (place + offered_size_by flat_step (alternatives_in s.alternatives.items) (ways_count (around 0 ways.now))) next)) }
+            (place + offered_size_by flat_step (alternatives_in s.alternatives.items)
+            (ways_count (around 0 ways.now))) next)) }
     {
         let offered = alternatives_length(&select.alternatives, count(ways));
         let second = self.behind(place, offered);
