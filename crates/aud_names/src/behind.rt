@@ -30,8 +30,7 @@ pub fn boxed<T: Drop>(alloc: Global, part: T) -> Left<T>
     Ok(Box::new(alloc, part)?)
 }
 
-/// Adds a part to a list. Where memory is refused, `Vec::push` gives the part back, and a `?` behind it takes apart what holds it;
-/// here that is of any type.
+/// Adds a part to a list. `Vec::push` gives the part back where memory is refused; it is dropped here, once for all types.
 pub fn add_last<T: Drop>(all: &mut Vec<T>, next: T) -> Made<()>
     ensures { OnOk result (all.new.items ≡ all.old.items ++ next ∷ []) }
 {

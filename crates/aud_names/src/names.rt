@@ -166,8 +166,7 @@ pub enum Builtin {
 /// The names that a region declares, in the order of their declarations, and what they stand for.
 pub type Symbols = IndexMap<Name, Meaning>;
 
-/// Has a name stand for something. Where memory is refused, `IndexMap::insert` gives both back, and a `?` behind it takes apart
-/// what holds them; here that stands once.
+/// Has a name stand for something. `IndexMap::insert` gives both back where memory is refused; they are dropped here.
 pub fn insert(symbols: &mut Symbols, name: Name, meaning: Meaning) -> Made<()>
     ensures { OnOk result (symbols.new.entries
         ≡ insert_entry bytes_eq symbols.old.entries name meaning) }
