@@ -40,8 +40,7 @@ pub fn cancel<B: Barriers>(
         Owner::Task(_) => Ok(()),
         Owner::Object(object) => {
             state.begin_action(n, object, false)?;
-            service(state, alloc, code, barriers, object, at, n)?;
-            Ok(())
+            service(state, alloc, code, barriers, object, at, n)
         }
     }
 }
@@ -72,6 +71,5 @@ pub fn expire<B: Barriers>(
     let at = state.call_at(id);
     state.resume(code, n, 1);
     state.cancel_call(id);
-    cancel(state, alloc, code, barriers, owner, at, n)?;
-    Ok(())
+    cancel(state, alloc, code, barriers, owner, at, n)
 }

@@ -38,8 +38,7 @@ pub(crate) fn open<B: Barriers>(
 {
     let _ = code;
     let units = barriers.units();
-    state.open_for(alloc, units, n, unit, purpose, backs, display, at, values)?;
-    Ok(())
+    state.open_for(alloc, units, n, unit, purpose, backs, display, at, values)
 }
 
 /// The frames that the bodies of an object see, outermost first.

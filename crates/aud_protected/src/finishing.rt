@@ -60,8 +60,7 @@ pub fn finish<B: Barriers>(
         state.end_action(n, object);
         return Ok(());
     }
-    service(state, alloc, code, barriers, object, at, n)?;
-    Ok(())
+    service(state, alloc, code, barriers, object, at, n)
 }
 
 // What the caller has then: what is given back, or the exception that was pending.

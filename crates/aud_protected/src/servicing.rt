@@ -102,15 +102,11 @@ pub fn serve<B: Barriers>(
 {
     let object = serving.object;
     match index {
-        None => {
-            service(state, alloc, code, barriers, object, serving.at, n)?;
-            Ok(())
-        }
+        None => service(state, alloc, code, barriers, object, serving.at, n),
         Some(index) => {
             let entries = entries_of(state, alloc, barriers, object)?;
             let entry = numbered(&entries, index);
-            serve_oldest(state, alloc, code, barriers, entry, serving, n)?;
-            Ok(())
+            serve_oldest(state, alloc, code, barriers, entry, serving, n)
         }
     }
 }
@@ -135,8 +131,7 @@ fn serve_oldest<B: Barriers>(
             let object = serving.object;
             enter_entry(
                 state, alloc, code, barriers, true, serving.at, object, id, n,
-            )?;
-            Ok(())
+            )
         }
     }
 }

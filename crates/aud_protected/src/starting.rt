@@ -99,14 +99,8 @@ fn meet<B: Barriers>(
             state.end_action(n, object);
             Ok(())
         }
-        Ok(true) => {
-            enter_entry(state, alloc, code, barriers, false, at, object, id, n)?;
-            Ok(())
-        }
-        Ok(false) => {
-            wait(state, alloc, code, barriers, at, object, id, n)?;
-            Ok(())
-        }
+        Ok(true) => enter_entry(state, alloc, code, barriers, false, at, object, id, n),
+        Ok(false) => wait(state, alloc, code, barriers, at, object, id, n),
     }
 }
 
@@ -191,8 +185,7 @@ pub fn start<B: Barriers>(
     open(
         state, alloc, code, barriers, purpose, backs, unit, at, &display, values, n,
     )?;
-    state.begin_action(n, object, is_function)?;
-    Ok(())
+    state.begin_action(n, object, is_function)
 }
 
 /// Whether a call of an object may begin: no action of another task is in its way; functions may run together (RM 9.5.1(4 to 6)).
