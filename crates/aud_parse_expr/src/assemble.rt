@@ -3,7 +3,7 @@
 // The functions of the cycle of expressions hand larger trees on in boxes, and put them together here.
 // These functions are not inlined, so no such tree stands in the stack frames of each level.
 
-ghost use Rattle.std.specs.Prelude.{◌∷◌, []};
+ghost use Rattle.std.specs.Prelude.{◌≡◌, ◌++◌, ◌∷◌, [], IfOk, OnOk};
 ghost use Rattle.aud_syntax.specs.Plain as m;
 ghost use Rattle.aud_syntax.specs.Ties.View.{plain_factor, plain_term};
 ghost use Rattle.aud_grammar.specs.Grammar as g;
@@ -18,6 +18,24 @@ use aud_syntax::tree::{
 };
 use std::alloc::{AllocError, Global};
 
+/// A tree in a box. Where memory is refused, `Box::new` gives the tree back; here that is of any type, so what drops it
+/// is one call.
+#[inline(never)]
+pub fn boxed<T: Drop>(alloc: Global, tree: T) -> Result<Box<T>, AllocError>
+    ensures { IfOk result (λ b. b.value ≡ tree) }
+{
+    Ok(Box::new(alloc, tree)?)
+}
+
+/// Pushes a tree, as the same.
+#[inline(never)]
+pub fn push_tree<T: Drop>(all: &mut Vec<T>, tree: T) -> Result<(), AllocError>
+    ensures { OnOk result (all.new.items ≡ all.old.items ++ tree ∷ []) }
+{
+    all.push(tree)?;
+    Ok(())
+}
+
 /// Pushes a further factor.
 #[inline(never)]
 pub fn push_multiplied(
@@ -30,7 +48,7 @@ pub fn push_multiplied(
         all.old.items all.new.items result }
 {
     let factor = Box::into_inner(factor);
-    all.push(Multiplied { operator, factor })?;
+    push_tree(all, Multiplied { operator, factor })?;
     Ok(())
 }
 
@@ -45,7 +63,7 @@ pub fn product(
         (boxed_item factor_item first ∷ vec_item multiplied_item rest ∷ []) result }
 {
     let first = Box::into_inner(first);
-    Ok(Box::new(alloc, Term { first, rest })?)
+    Ok(boxed(alloc, Term { first, rest })?)
 }
 
 /// Pushes a further term.
@@ -55,7 +73,7 @@ pub fn push_added(all: &mut Vec<Added>, operator: Adding, term: Box<Term>) -> Re
         all.old.items all.new.items result }
 {
     let term = Box::into_inner(term);
-    all.push(Added { operator, term })?;
+    push_tree(all, Added { operator, term })?;
     Ok(())
 }
 
@@ -71,7 +89,7 @@ pub fn sum(
         (opt_item a_sign sign ∷ boxed_item term_item first ∷ vec_item added_item rest ∷ []) result }
 {
     let first = Box::into_inner(first);
-    Ok(Box::new(alloc, Simple { sign, first, rest })?)
+    Ok(boxed(alloc, Simple { sign, first, rest })?)
 }
 
 /// A relation of one operand.
@@ -80,7 +98,7 @@ pub fn unrelated(alloc: Global, operand: Box<Simple>) -> Result<Box<Relation>, A
     ensures { Makes relation_item g.Relation (boxed_item simple_item operand ∷ none ∷ []) result }
 {
     let operand = Box::into_inner(operand);
-    Ok(Box::new(alloc, Relation::Unrelated(operand))?)
+    Ok(boxed(alloc, Relation::Unrelated(operand))?)
 }
 
 /// A relation of two operands.
@@ -99,8 +117,8 @@ pub fn related(
         left: Box::into_inner(left),
         right: Box::into_inner(right),
     };
-    let boxed = Box::new(alloc, comparison)?;
-    Ok(Box::new(alloc, Relation::Related(boxed))?)
+    let comparison = boxed(alloc, comparison)?;
+    Ok(boxed(alloc, Relation::Related(comparison))?)
 }
 
 /// Pushes a further relation.
@@ -109,7 +127,7 @@ pub fn push_relation(all: &mut Vec<Relation>, relation: Box<Relation>) -> Result
     ensures { Pushes relation_item (boxed_item relation_item relation)
         all.old.items all.new.items result }
 {
-    all.push(Box::into_inner(relation))?;
+    push_tree(all, Box::into_inner(relation))?;
     Ok(())
 }
 
@@ -120,7 +138,7 @@ pub fn alone(alloc: Global, relation: Box<Relation>) -> Result<Box<Expression>, 
         (boxed_item relation_item relation ∷ none ∷ []) result }
 {
     let relation = Box::into_inner(relation);
-    Ok(Box::new(alloc, Expression::Alone(relation))?)
+    Ok(boxed(alloc, Expression::Alone(relation))?)
 }
 
 /// An expression of several relations.
@@ -142,6 +160,6 @@ pub fn connected(
         second: Box::into_inner(second),
         others,
     };
-    let boxed = Box::new(alloc, chain)?;
-    Ok(Box::new(alloc, Expression::Connected(boxed))?)
+    let chain = boxed(alloc, chain)?;
+    Ok(boxed(alloc, Expression::Connected(chain))?)
 }

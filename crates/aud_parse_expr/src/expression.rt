@@ -15,7 +15,8 @@ ghost use Rattle.aud_cursor.specs.Ties.Connects.{further};
 ghost use Rattle.aud_parse_expr.specs.Ties.Items.{parens_item, part_item, name_item, args_item, attribute_item, primary_item, factor_item, multiplied_item, term_item, added_item, simple_item, relation_item, expression_item};
 
 use crate::assemble::{
-    alone, connected, product, push_added, push_multiplied, push_relation, related, sum, unrelated,
+    alone, boxed, connected, product, push_added, push_multiplied, push_relation, push_tree,
+    related, sum, unrelated,
 };
 use aud_cursor::behind::{both, ended};
 use aud_cursor::connective::{again, comes_again, logical};
@@ -77,7 +78,7 @@ fn in_args(alloc: Global, start: Rest, room: u32) -> Read<Vec<Expression>>
     let mut rest = word(start, Kind::LeftParenthesis)?;
     'turns: loop {
         let (one, after) = expression(alloc, rest, room)?;
-        all.push(Box::into_inner(one))?;
+        push_tree(&mut all, Box::into_inner(one))?;
         let Some((_, behind)) = accept(after, Kind::Comma) else {
             let rest = word(after, Kind::RightParenthesis)?;
             return Ok((all, rest));
@@ -126,7 +127,7 @@ pub fn selected(alloc: Global, start: Rest, room: u32) -> Read<Vec<NamePart>>
     let mut rest = start;
     'turns: while let Some((_, behind)) = accept(rest, Kind::Point) {
         let (part, after) = part(alloc, behind, room)?;
-        all.push(part)?;
+        push_tree(&mut all, part)?;
         rest = after;
     }
     Ok((all, rest))
@@ -140,7 +141,7 @@ pub fn name(alloc: Global, start: Rest, room: u32) -> Read<Box<Name>>
 {
     let (first, rest) = part(alloc, start, room)?;
     let (others, rest) = selected(alloc, rest, room)?;
-    let boxed = Box::new(alloc, Name { first, others })?;
+    let boxed = boxed(alloc, Name { first, others })?;
     Ok((boxed, rest))
 }
 
@@ -201,7 +202,7 @@ fn factor(alloc: Global, start: Rest, room: u32) -> Read<Box<Factor>>
 {
     let (operator, rest) = opt_operator(start);
     let (primary, rest) = primary(alloc, rest, room)?;
-    Ok((Box::new(alloc, Factor { operator, primary })?, rest))
+    Ok((boxed(alloc, Factor { operator, primary })?, rest))
 }
 
 /// A multiplying operator, if one comes next (RM 4.5.5).

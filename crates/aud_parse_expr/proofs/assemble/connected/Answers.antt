@@ -3,4 +3,4 @@ use Rattle.aud_parse_expr.proofs.assemble.connected.Goals as goal
 
 pub returns : goal.returns
 returns c = λ ds.
-    chain_items c.in_ok-new.field-0 c.in_ok-boxed.boxed c.args.connective c.args.first c.args.second c.into_inner.result c.into_inner-2.result c.args.others ds c.in_ok-new.ensures.ok c.in_ok-boxed.ensures.ok c.into_inner.ensures c.into_inner-2.ensures
+    chain_items c.in_ok-boxed.field-0 c.in_ok-chain.chain c.args.connective c.args.first c.args.second c.into_inner.result c.into_inner-2.result c.args.others ds c.in_ok-boxed.ensures c.in_ok-chain.ensures c.into_inner.ensures c.into_inner-2.ensures

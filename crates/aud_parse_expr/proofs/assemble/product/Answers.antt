@@ -2,4 +2,4 @@ use Rattle.aud_parse_expr.proofs.Rolls.{term_items}
 use Rattle.aud_parse_expr.proofs.assemble.product.Goals as goal
 
 pub returns : goal.returns
-returns c = λ ds. term_items c.in_ok-new.field-0 c.args.first c.into_inner-first.result c.args.rest ds c.in_ok-new.ensures.ok c.into_inner-first.ensures
+returns c = λ ds. term_items c.in_ok-boxed.field-0 c.args.first c.into_inner-first.result c.args.rest ds c.in_ok-boxed.ensures c.into_inner-first.ensures

@@ -6,4 +6,4 @@ use Rattle.aud_parse_expr.proofs.Rolls.{added_roll}
 use Rattle.aud_parse_expr.proofs.assemble.push_added.Goals as goal
 
 pub returns : goal.returns
-returns c = (_, c.in_ok-push.ensures.items, ap an_added (added_roll c.args.operator c.into_inner-term.result) ∙ ap (λ z. an_added (m.added c.args.operator (plain_term z))) c.into_inner-term.ensures)
+returns c = (_, c.in_ok-push_tree.ensures, ap an_added (added_roll c.args.operator c.into_inner-term.result) ∙ ap (λ z. an_added (m.added c.args.operator (plain_term z))) c.into_inner-term.ensures)

@@ -5,4 +5,4 @@ use Rattle.aud_grammar.specs.Actions.{a_multiplied}
 use Rattle.aud_parse_expr.proofs.assemble.push_multiplied.Goals as goal
 
 pub returns : goal.returns
-returns c = (_, c.in_ok-push.ensures.items, ap (λ z. a_multiplied (m.multiplied c.args.operator (plain_factor z))) c.into_inner-factor.ensures)
+returns c = (_, c.in_ok-push_tree.ensures, ap (λ z. a_multiplied (m.multiplied c.args.operator (plain_factor z))) c.into_inner-factor.ensures)

@@ -56,7 +56,7 @@ pub in_args-returns-in_default : goal.in_args-returns-in_default
 in_args-returns-in_default t c = record {
   reads = λ k ds v o.
       to (o_rule (c.turns.invariant.opened _ _ _ (heads_on c.into_inner.result c.turns.invariant.turns (rw c.into_inner.ensures c.in_ok-one.ensures.reads) c.in_default.ensures.reads _ _ _ (c.in_ok-rest-2.ensures.reads _ _ _ _ o))))
-      (args_items (headed expression_item c.turns.all.items (expression_item c.into_inner.result ∷ none ∷ ds)) ds _ (headed_items expression_item c.turns.all.items c.into_inner.result ds ∙ ap (λ l. list_item expression_item l ∷ ds) (sym c.in_ok-push.ensures.items)));
+      (args_items (headed expression_item c.turns.all.items (expression_item c.into_inner.result ∷ none ∷ ds)) ds _ (headed_items expression_item c.turns.all.items c.into_inner.result ds ∙ ap (λ l. list_item expression_item l ∷ ds) (sym c.in_ok-push_tree.ensures)));
   shorter = search rules;
 }
 
@@ -64,7 +64,7 @@ pub in_args-turns-preserved : goal.in_args-turns-preserved
 in_args-turns-preserved t c = record {
   inside = c.turns.invariant.inside;
   opened = c.turns.invariant.opened;
-  turns = heads_push c.into_inner.result c.turns.invariant.turns (rw c.into_inner.ensures c.in_ok-one.ensures.reads) (λ k ds v o. o_more c.in-Some.ensures.reads.0 (o_rule (word_passes c.in-Some.ensures.reads _ _ _ o))) c.in_ok-push.ensures.items;
+  turns = heads_push c.into_inner.result c.turns.invariant.turns (rw c.into_inner.ensures c.in_ok-one.ensures.reads) (λ k ds v o. o_more c.in-Some.ensures.reads.0 (o_rule (word_passes c.in-Some.ensures.reads _ _ _ o))) c.in_ok-push_tree.ensures;
   shorter = search rules;
 }
 
@@ -93,7 +93,7 @@ pub selected-returns-in_err-part : goal.selected-returns-in_err-part
 selected-returns-in_err-part t c = exit _ _ _ c.from_residual.ensures.1 c.in_err-part.ensures.reads (λ k ds v o. c.turns.invariant.turns.by _ _ _ (o_more c.in-Some.ensures.reads.0 (o_rule (word_passes c.in-Some.ensures.reads _ _ _ o))))
 
 pub selected-turns-preserved : goal.selected-turns-preserved
-selected-turns-preserved t c = record { turns = turns_push _ c.turns.invariant.turns c.in-Some.ensures.reads.0 (λ k ds v o. o_rule (word_passes c.in-Some.ensures.reads _ _ _ (c.in_ok-part.ensures.reads _ _ _ o))) c.in_ok-push.ensures.items; shorter = search rules }
+selected-turns-preserved t c = record { turns = turns_push _ c.turns.invariant.turns c.in-Some.ensures.reads.0 (λ k ds v o. o_rule (word_passes c.in-Some.ensures.reads _ _ _ (c.in_ok-part.ensures.reads _ _ _ o))) c.in_ok-push_tree.ensures; shorter = search rules }
 
 pub name-returns-in_err-first : goal.name-returns-in_err-first
 name-returns-in_err-first t c = exit _ _ _ c.from_residual.ensures.1 c.in_err-first.ensures.reads (λ k ds v o. o_rule o)
@@ -102,7 +102,7 @@ pub name-returns-in_err-others : goal.name-returns-in_err-others
 name-returns-in_err-others t c = exit _ _ _ c.from_residual-in_err-others.ensures.1 c.in_err-others.ensures.reads (λ k ds v o. o_rule (c.in_ok-first.ensures.reads _ _ _ o))
 
 pub name-returns : goal.name-returns
-name-returns t c = record { reads = λ k ds v o. to (o_rule (c.in_ok-first.ensures.reads _ _ _ (c.in_ok-others.ensures.reads _ _ _ o))) (parts_items c.in_ok-boxed.boxed c.in_ok-first.first c.in_ok-others.others ds c.in_ok-boxed.ensures.ok); shorter = search rules }
+name-returns t c = record { reads = λ k ds v o. to (o_rule (c.in_ok-first.ensures.reads _ _ _ (c.in_ok-others.ensures.reads _ _ _ o))) (parts_items c.in_ok-boxed.boxed c.in_ok-first.first c.in_ok-others.others ds c.in_ok-boxed.ensures); shorter = search rules }
 
 pub named-returns-in_err-prefix : goal.named-returns-in_err-prefix
 named-returns-in_err-prefix t c = exit _ _ _ c.from_residual.ensures.1 c.in_err-prefix.ensures.reads (λ k ds v o. o_rule o)
@@ -141,7 +141,7 @@ pub factor-returns-in_err-primary : goal.factor-returns-in_err-primary
 factor-returns-in_err-primary t c = exit _ _ _ c.from_residual.ensures.1 c.in_err-primary.ensures.reads (λ k ds v o. o_rule (c.opt_operator-operator.ensures.reads _ _ _ _ o))
 
 pub factor-returns : goal.factor-returns
-factor-returns t c = record { reads = λ k ds v o. rw c.in_ok-new.ensures.ok (to (o_rule (c.opt_operator-operator.ensures.reads _ _ _ _ (c.in_ok-primary.ensures.reads _ _ _ o))) (factor_items _ _ _)); shorter = search rules }
+factor-returns t c = record { reads = λ k ds v o. rw c.in_ok-boxed.ensures (to (o_rule (c.opt_operator-operator.ensures.reads _ _ _ _ (c.in_ok-primary.ensures.reads _ _ _ o))) (factor_items _ _ _)); shorter = search rules }
 
 pub term-returns-in_err-first : goal.term-returns-in_err-first
 term-returns-in_err-first t c = exit _ _ _ c.from_residual.ensures.1 c.in_err-first.ensures.reads (λ k ds v o. o_rule o)
