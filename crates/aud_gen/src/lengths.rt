@@ -96,8 +96,8 @@ pub fn boolean_length(e: &BooleanExpression) -> usize
     }
 }
 
-/// Of a value for a place that asks for a subtype.
-pub fn value_length(e: &ValueExpression) -> usize
+// Of a value for a place that asks for a subtype.
+fn value_length(e: &ValueExpression) -> usize
     ensures { result ≡ counted (length (value_code (plain_value e.now))) }
 {
     match e {
@@ -106,8 +106,8 @@ pub fn value_length(e: &ValueExpression) -> usize
     }
 }
 
-/// Of a text.
-pub fn text_length(t: &TextExpression) -> usize
+// Of a text.
+fn text_length(t: &TextExpression) -> usize
     ensures { result ≡ counted (length (text_code (plain_text t.now))) }
 {
     match t {
@@ -125,8 +125,8 @@ pub fn text_length(t: &TextExpression) -> usize
     }
 }
 
-/// Of what is assigned.
-pub fn reference_length(r: &Reference) -> usize
+// Of what is assigned.
+fn reference_length(r: &Reference) -> usize
     ensures { result ≡ counted (length (reference_code (plain_reference r.now))) }
 {
     match r {
@@ -135,8 +135,8 @@ pub fn reference_length(r: &Reference) -> usize
     }
 }
 
-/// Of an argument of a call, whatever the number of its formal.
-pub fn argument_length(argument: &Argument) -> usize
+// Of an argument of a call, whatever the number of its formal.
+fn argument_length(argument: &Argument) -> usize
     ensures { (number : ℕ) →
         result ≡ counted (length (argument_code number (plain_argument argument.now))) }
 {
@@ -157,8 +157,8 @@ fn first_value_length(is_in: bool) -> usize
     if is_in { 2 } else { 1 }
 }
 
-/// Of all arguments of a call.
-pub fn arguments_length(arguments: &[Argument]) -> usize
+// Of all arguments of a call.
+fn arguments_length(arguments: &[Argument]) -> usize
     ensures { result ≡ counted (length (arguments_code 0 (plain_arguments arguments.now))) }
 {
     let mut total: usize = 0;
@@ -189,8 +189,8 @@ fn form_length(form: &CallForm) -> usize
     }
 }
 
-/// Of the arguments of a call, and the time that it waits.
-pub fn called_length(arguments: &[Argument], form: &CallForm) -> usize
+// Of the arguments of a call, and the time that it waits.
+fn called_length(arguments: &[Argument], form: &CallForm) -> usize
     ensures { result ≡
         counted (length (called_code (plain_arguments arguments.now) (plain_form form.now))) }
 {
@@ -224,15 +224,15 @@ fn into_length(into: &Option<Reference>) -> usize
     }
 }
 
-/// Of a call of a procedure or function.
-pub fn calling_length(calling: &Calling) -> usize
+// Of a call of a procedure or function.
+fn calling_length(calling: &Calling) -> usize
     ensures { result ≡ counted (length (entered_code (plain_calling calling.now))) }
 {
     into_length(&calling.into).saturating_add(arguments_length(&calling.arguments))
 }
 
-/// Of the initial values of an object's components.
-pub fn components_length(components: &[ValueExpression]) -> usize
+// Of the initial values of an object's components.
+fn components_length(components: &[ValueExpression]) -> usize
     ensures { result ≡ counted (length (components_code (plain_values components.now))) }
 {
     let mut total: usize = 0;
@@ -470,9 +470,9 @@ fn block_length(block: &BlockStatement, ways: usize) -> usize
         .saturating_add(1)
 }
 
-/// Of a body: its declarations and their activation, its statements, the line that guards them, its handlers, and its end.
+// Of a body: its declarations and their activation, its statements, the line that guards them, its handlers, and its end.
 #[cycle(lengths)]
-pub fn body_length(body: &Body, ways: usize) -> usize
+fn body_length(body: &Body, ways: usize) -> usize
     ensures { result ≡ counted (body_size_by flat_step (body_in body.now) ways) }
 {
     place_of_end(body, 0, ways).saturating_add(1)
@@ -504,9 +504,9 @@ pub fn elaborations_length(body: &Body, ways: usize) -> usize
     }
 }
 
-/// Of handlers.
+// Of handlers.
 #[cycle(lengths)]
-pub fn handlers_length(handlers: &[Handler], ways: usize) -> usize
+fn handlers_length(handlers: &[Handler], ways: usize) -> usize
     ensures { result ≡ counted (handlers_size_by flat_step (handlers_in handlers.now) ways) }
 {
     let mut total: usize = 0;

@@ -1,5 +1,5 @@
 -- Endings that concern a task alone: what they ask for, and where they lead.
-use Rattle.std.proofs.Common.{◌≡◌, ℕ, ℤ, List, [], ◌∷◌, length, Option, None, Some, Bool, true, false, refl, ap, sym, ◌∙◌, subst}
+use Rattle.std.proofs.Common.{◌≡◌, ℕ, ℤ, List, [], ◌∷◌, length, Option, None, Some, Bool, true, false, refl, ap, sym, subst}
 use Rattle.std.specs.Prelude.{◌+ℤ◌, Result, int_le, nat_lt, if◌then◌else◌}
 use Rattle.aud_text.specs.declared.place.Pos.{Pos}
 use Rattle.aud_text.specs.declared.raise.Raise.{Raise}

@@ -4,5 +4,5 @@ pub mod Parked
 pub mod Next
 pub mod Standing
 pub mod Fast
-pub mod Leading
+pub mod Ahead
 pub mod Beside

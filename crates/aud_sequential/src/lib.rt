@@ -2,8 +2,8 @@
 #![tactic(auto)]
 
 mod coming;
+pub mod endings;
 pub mod fast;
-pub mod leading;
 pub mod progress;
 pub mod standing;
 mod statements;

@@ -18,7 +18,7 @@ use Rattle.aud_tasks.specs.Choices.{IsNoStart}
 use Rattle.aud_tasks.specs.Counting.{most_ticks}
 use Rattle.aud_state.specs.Reads.{IsPlain}
 use Rattle.aud_tasks.specs.Moving.{IsSimple, has_some, moves_of}
-use Rattle.aud_tasks.specs.Turning.{coming_in, turn_in}
+use Rattle.aud_tasks.specs.Turning.{coming_in}
 
 -- the same is left in new as after n steps from old, or after those until no move is enabled, and what was done is told
 pub record RunsLeaving (plan : Plan) (code : Flat) (limits : Limits) (n : ℕ) (old new : All Spot) (ran : Ran) : Type 0 where
@@ -49,9 +49,6 @@ abbrev pub is_acting : Turn → Bool
 is_acting (acting next) = true
 is_acting u = false
 
-abbrev pub acts_in : Plan → Flat → ℕ → All Spot → Bool
-acts_in plan code n c = is_acting (turn_in plan code n c)
-
 -- k steps lead from old to new, so that k + n lead from old to where n lead from new
 abbrev pub RunsOn : Plan → Flat → Limits → ℕ → All Spot → All Spot → Type 0
 RunsOn plan code limits k old new = (n : ℕ) → run_with plan (flat_controls plan code) limits (k + n) old ≡ run_with plan (flat_controls plan code) limits n new
@@ -76,12 +73,13 @@ IsUnchosen [] choices = Unit {0}
 IsUnchosen (m ∷ ms) [] = Unit {0}
 IsUnchosen (m ∷ ms) (choice ∷ choices) = ⊥
 
--- the move of the task of a number is taken, no choice is used up for it, and its own statements go on
+-- the move of the task of a number is taken, its only one, and no choice is used up for it; it runs as usual
 pub record GoesOn (plan : Plan) (code : Flat) (n : ℕ) (c : All Spot) : Type 0 where
   pub others : List Move
   pub moves : moves_at plan (flat_controls plan code) c ≡ own_move n ∷ others
   pub unchosen : IsUnchosen others c.choices
-  pub acts : acts_in plan code n c ≡ true
+  pub plain : IsPlain (own_of n c)
+  pub only : moves_of plan code n c ≡ own_move n ∷ []
 
 -- no object has an action under way
 abbrev pub AreIdle : All Spot → Type 0

@@ -1,7 +1,7 @@
 // What no contract says, and no session of `aud_session_tests` shows: each call that no session goes through, once
-// where it succeeds; what is done at once of programs worked out by hand; keys of frames that are given back; streams
-// that fail; desks with workers, their connections and the listening program; the program's status, and what it says of
-// it. The tests stand here for all crates, since a crate that has tests of its own is proved twice.
+// where it succeeds; what is done at once, and taken ahead, of programs worked out by hand; keys of frames that are
+// given back; streams that fail; desks with workers, their connections and the listening program; the program's status,
+// and what it says of it. The tests stand here for all crates, since a crate that has tests of its own is proved twice.
 
 mod ahead;
 mod answers;

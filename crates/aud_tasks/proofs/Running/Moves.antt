@@ -56,25 +56,58 @@ abbrev pub bares : {C : Type 0} → List (TaskAt C) → List Own
 bares [] = []
 bares (t ∷ ts) = bare t.own ∷ bares ts
 
--- it runs, and goes on simply: no question of its open frames
-abbrev pub GoesSimply : Status → Coming → Type 0
-GoesSimply Running (simply w) = Unit {0}
-GoesSimply status next = ⊥
-
--- The same task, elsewhere in its code. Free is what makes objects idle, where the task's status lets it begin an action. One that has
--- moved may have other frames open, and goes on simply.
+-- The same task, elsewhere in its code. Free is what makes objects idle, where the task's status lets it begin an action.
 pub record AlikeTask (Free : Status → Type 0) (Served Other Moved : Type 0) (t u : TaskAt Seen) : Type 0 where
-  pub own : bare t.own ≡ bare u.own
-  pub opened : (t.own.opened ≡ u.own.opened) ⊎ Moved
-  pub moved : Moved → GoesSimply t.own.status t.control.coming
+  pub unmoved : Moved → ⊥
+  pub own : t.own ≡ u.own
   pub coming : AreAlike (Free t.own.status) Other t.control.coming u.control.coming
   pub serving : ServesSame Served Other t.own.serving
 
--- from a number on
-abbrev pub AlikeTasks : (Status → Type 0) → (Served : Type 0) → (Other Moved : ℕ → Type 0) → ℕ → List (TaskAt Seen) → List (TaskAt Seen) → Type 0
-AlikeTasks Free Served Other Moved n [] [] = Unit {0}
-AlikeTasks Free Served Other Moved n (t ∷ ts) (u ∷ us) = AlikeTask Free Served (Other n) (Moved n) t u × AlikeTasks Free Served Other Moved (suc n) ts us
-AlikeTasks Free Served Other Moved n ts us = ⊥
+module _ (plan : Plan) (barrier : ℕ → Sight → Result Bool Raise) (d e : All Seen) where
+  -- one that has moved: its open frames and what is pending of it may differ, and its moves do not
+  pub record MovedTask (n : ℕ) (t u : TaskAt Seen) : Type 0 where
+    pub own : bare t.own ≡ bare u.own
+    pub moves : turn_moves plan barrier (turn plan barrier n t d) n d ≡ turn_moves plan barrier (turn plan barrier n u e) n e
+    pub acts : is_acting (turn plan barrier n t d) ≡ is_acting (turn plan barrier n u e)
+
+  -- from a number on
+  abbrev pub AlikeTasks : (Status → Type 0) → (Served : Type 0) → (Other Moved : ℕ → Type 0) → ℕ → List (TaskAt Seen) → List (TaskAt Seen) → Type 0
+  AlikeTasks Free Served Other Moved n [] [] = Unit {0}
+  AlikeTasks Free Served Other Moved n (t ∷ ts) (u ∷ us) = (AlikeTask Free Served (Other n) (Moved n) t u ⊎ (Moved n × MovedTask n t u)) × AlikeTasks Free Served Other Moved (suc n) ts us
+  AlikeTasks Free Served Other Moved n ts us = ⊥
+
+  bare_same : (Free : Status → Type 0) (Served Other Moved : Type 0) (n : ℕ) (t u : TaskAt Seen) → AlikeTask Free Served Other Moved t u ⊎ (Moved × MovedTask n t u) → bare t.own ≡ bare u.own
+  bare_same Free Served Other Moved n t u (inl h) = ap bare h.own
+  bare_same Free Served Other Moved n t u (inr h) = h.1.own
+
+  pub bares_alike : (Free : Status → Type 0) (Served : Type 0) (Other Moved : ℕ → Type 0) (n : ℕ) (ts us : List (TaskAt Seen)) → AlikeTasks Free Served Other Moved n ts us → bares ts ≡ bares us
+  bares_alike Free Served Other Moved n [] [] h = refl
+  bares_alike Free Served Other Moved n [] (u ∷ us) h = absurd h
+  bares_alike Free Served Other Moved n (t ∷ ts) [] h = absurd h
+  bares_alike Free Served Other Moved n (t ∷ ts) (u ∷ us) h =
+      ap (λ o. o ∷ bares ts) (bare_same Free Served (Other n) (Moved n) n t u h.0) ∙ ap (λ os. bare u.own ∷ os) (bares_alike Free Served Other Moved (suc n) ts us h.1)
+
+  -- the open frames of the task of a number
+  abbrev pub opened_at : ℕ → List (TaskAt Seen) → List Opened
+  opened_at k ts = (slice_index_or (owns ts) k nobody).opened
+
+  opened_same : (Free : Status → Type 0) (Served Other Moved : Type 0) (n : ℕ) (t u : TaskAt Seen) → AlikeTask Free Served Other Moved t u ⊎ (Moved × MovedTask n t u) → (t.own.opened ≡ u.own.opened) ⊎ Moved
+  opened_same Free Served Other Moved n t u (inl h) = inl (ap (λ (o : Own). o.opened) h.own)
+  opened_same Free Served Other Moved n t u (inr h) = inr h.0
+
+  pub opened_alike : (Free : Status → Type 0) (Served : Type 0) (Other Moved : ℕ → Type 0) (n i k : ℕ) (ts us : List (TaskAt Seen)) → n + i ≡ k → AlikeTasks Free Served Other Moved n ts us → (opened_at i ts ≡ opened_at i us) ⊎ Moved k
+  opened_alike Free Served Other Moved n i k [] [] is h = inl refl
+  opened_alike Free Served Other Moved n i k [] (u ∷ us) is h = absurd h
+  opened_alike Free Served Other Moved n i k (t ∷ ts) [] is h = absurd h
+  opened_alike Free Served Other Moved n zero k (t ∷ ts) (u ∷ us) is h =
+      let same : n ≡ k = omega (arith, is) in
+      subst (λ m. (t.own.opened ≡ u.own.opened) ⊎ Moved m) same (opened_same Free Served (Other n) (Moved n) n t u h.0)
+  opened_alike Free Served Other Moved n (suc i) k (t ∷ ts) (u ∷ us) is h = opened_alike Free Served Other Moved (suc n) i k ts us (omega (arith, is)) h.1
+
+bare_at : (k : ℕ) (ts : List (TaskAt Seen)) → bare (slice_index_or (owns ts) k nobody) ≡ slice_index_or (bares ts) k nobody
+bare_at k [] = refl
+bare_at zero (t ∷ ts) = refl
+bare_at (suc k) (t ∷ ts) = bare_at k ts
 
 -- Moves that are the same, or of which both have some.
 abbrev pub HasSome : List Move → Type 0
@@ -108,28 +141,6 @@ head_of x y xs ys h = same_Some x y (ap (λ l. slice_get l 0) h)
 tail_of : (x y : Move) (xs ys : List Move) → x ∷ xs ≡ y ∷ ys → xs ≡ ys
 tail_of x y xs ys h = ap (drop 1) h
 
-pub bares_alike : (Free : Status → Type 0) (Served : Type 0) (Other Moved : ℕ → Type 0) (n : ℕ) (ts us : List (TaskAt Seen)) → AlikeTasks Free Served Other Moved n ts us → bares ts ≡ bares us
-bares_alike Free Served Other Moved n [] [] h = refl
-bares_alike Free Served Other Moved n [] (u ∷ us) h = absurd h
-bares_alike Free Served Other Moved n (t ∷ ts) [] h = absurd h
-bares_alike Free Served Other Moved n (t ∷ ts) (u ∷ us) h = ap (λ o. o ∷ bares ts) h.0.own ∙ ap (λ os. bare u.own ∷ os) (bares_alike Free Served Other Moved (suc n) ts us h.1)
-
--- the open frames of the task of a number
-abbrev pub opened_at : ℕ → List (TaskAt Seen) → List Opened
-opened_at k ts = (slice_index_or (owns ts) k nobody).opened
-
-pub opened_alike : (Free : Status → Type 0) (Served : Type 0) (Other Moved : ℕ → Type 0) (n i k : ℕ) (ts us : List (TaskAt Seen)) → n + i ≡ k → AlikeTasks Free Served Other Moved n ts us → (opened_at i ts ≡ opened_at i us) ⊎ Moved k
-opened_alike Free Served Other Moved n i k [] [] is h = inl refl
-opened_alike Free Served Other Moved n i k [] (u ∷ us) is h = absurd h
-opened_alike Free Served Other Moved n i k (t ∷ ts) [] is h = absurd h
-opened_alike Free Served Other Moved n zero k (t ∷ ts) (u ∷ us) is h = let same : n ≡ k = omega (arith, is) in subst (λ m. (t.own.opened ≡ u.own.opened) ⊎ Moved m) same h.0.opened
-opened_alike Free Served Other Moved n (suc i) k (t ∷ ts) (u ∷ us) is h = opened_alike Free Served Other Moved (suc n) i k ts us (omega (arith, is)) h.1
-
-bare_at : (k : ℕ) (ts : List (TaskAt Seen)) → bare (slice_index_or (owns ts) k nobody) ≡ slice_index_or (bares ts) k nobody
-bare_at k [] = refl
-bare_at zero (t ∷ ts) = refl
-bare_at (suc k) (t ∷ ts) = bare_at k ts
-
 -- what is left next is a question of the open frames alone
 loops_left : (os : List Opened) (a b : Own) → a.opened ≡ b.opened → (out_of_loops_by os a).opened ≡ (out_of_loops_by os b).opened
 loops_left [] a b is = is
@@ -142,14 +153,6 @@ loops_left (o ∷ os) a b is = by (is_loop o.purpose) (loops_left os (record a {
 
 construct_there : (a b : Own) → a.opened ≡ b.opened → construct_left a ≡ construct_left b
 construct_there a b is = ap (λ os. (out_of_loops_by os a).opened) is ∙ loops_left b.opened a b is
-
-or_so : {A B C : Type 0} → (B → C) → A ⊎ B → A ⊎ C
-or_so f (inl a) = inl a
-or_so f (inr b) = inr (f b)
-
--- with the open frames of another, and what is pending of it
-abbrev framed : Own → Own → Own
-framed q o = record o { pending = q.pending; display = q.display; opened = q.opened }
 
 -- whether it keeps a master open
 abbrev keeps : ℕ → Own → Bool
@@ -193,7 +196,7 @@ quiet_same : (Other : Type 0) (ms ns : List Move) → (Other → HasSome ms → 
 quiet_same Other ms ns quiet (same_moves is) = is
 quiet_same Other ms ns quiet (some_moves other some there) = absurd (quiet other some)
 
-module _ (plan : Plan) (barrier : ℕ → Sight → Result Bool Raise) (Free : Status → Type 0) (Served : Type 0) (d : All Seen) (free : Free Running → AreIdle d) (us : List (TaskAt Seen)) (left : Left) (choices : List ℕ) (steps : ℕ) (serves : Served → ServesAlike plan barrier d (elsewhere us left choices steps d)) (Moved : ℕ → Type 0) (same : bares d.tasks ≡ bares us) (opens : (n : ℕ) → (opened_at n d.tasks ≡ opened_at n us) ⊎ Moved n) where
+module _ (plan : Plan) (barrier : ℕ → Sight → Result Bool Raise) (Free : Status → Type 0) (Served : Type 0) (d : All Seen) (free : Free Running → AreIdle d) (us : List (TaskAt Seen)) (left : Left) (choices : List ℕ) (steps : ℕ) (serves : Served → ServesAlike plan barrier d (elsewhere us left choices steps d)) (Moved : ℕ → Type 0) (same : bares d.tasks ≡ bares us) (opens : (n : ℕ) → (opened_at plan barrier d (elsewhere us left choices steps d) n d.tasks ≡ opened_at plan barrier d (elsewhere us left choices steps d) n us) ⊎ Moved n) where
   abbrev e : All Seen
   e = elsewhere us left choices steps d
 
@@ -203,23 +206,26 @@ module _ (plan : Plan) (barrier : ℕ → Sight → Result Bool Raise) (Free : S
   bare_there : (n : ℕ) → bare (own_of n d) ≡ bare (own_of n e)
   bare_there n = bare_at n d.tasks ∙ ap (λ os. slice_index_or os n nobody) same ∙ sym (bare_at n us)
 
+  opened_there : (n : ℕ) → (Moved n → ⊥) → (own_of n d).opened ≡ (own_of n e).opened
+  opened_there n unmoved = by (opens n)
+    where
+      by : ((own_of n d).opened ≡ (own_of n e).opened) ⊎ Moved n → (own_of n d).opened ≡ (own_of n e).opened
+      by (inl is) = is
+      by (inr moved) = absurd (unmoved moved)
+
   end_there : (master : Option ℕ) (n : ℕ) → end_moves plan barrier master n d ≡ end_moves plan barrier master n e
   end_there None n = refl
   end_there (Some master) n = ap (λ b. only plan barrier b n) (closable master)
 
-  leaving_there : (n : ℕ) → (own_of n d).opened ≡ (own_of n e).opened → acting_moves plan barrier ending n d ≡ acting_moves plan barrier ending n e
-  leaving_there n is =
-      ap (λ os. end_moves plan barrier (master_left_by os) n d) (construct_there (own_of n d) (own_of n e) is)
+  coming_there : (x : Coming) (n : ℕ) → (Moved n → ⊥) → acting_moves plan barrier x n d ≡ acting_moves plan barrier x n e
+  coming_there (simply w) n unmoved = refl
+  coming_there ending n unmoved =
+      ap (λ os. end_moves plan barrier (master_left_by os) n d) (construct_there (own_of n d) (own_of n e) (opened_there n unmoved))
       ∙ end_there (master_left_by (construct_left (own_of n e))) n
-
-  -- of what leaves nothing
-  coming_there : (x : Coming) (n : ℕ) → ¬ (x ≡ ending) → acting_moves plan barrier x n d ≡ acting_moves plan barrier x n e
-  coming_there (simply w) n other = refl
-  coming_there ending n other = absurd (other refl)
-  coming_there (selecting ones) n other = refl
-  coming_there (calling None entry) n other = refl
-  coming_there (calling (Some task) entry) n other = ap (λ (o : Own). each_or_one plan barrier (alternatives_of plan barrier (open_alternatives o entry)) n) (bare_there task)
-  coming_there (starting object reading) n other = refl
+  coming_there (selecting ones) n unmoved = refl
+  coming_there (calling None entry) n unmoved = refl
+  coming_there (calling (Some task) entry) n unmoved = ap (λ (o : Own). each_or_one plan barrier (alternatives_of plan barrier (open_alternatives o entry)) n) (bare_there task)
+  coming_there (starting object reading) n unmoved = refl
 
   each_some : (picked : List ℕ) (n : ℕ) → HasSome (each_or_one plan barrier picked n)
   each_some [] n = tt
@@ -237,25 +243,24 @@ module _ (plan : Plan) (barrier : ℕ → Sight → Result Bool Raise) (Free : S
   starts_free : (object : ℕ) (reading : Bool) (n : ℕ) → AreIdle d → acting_moves plan barrier (starting object reading) n d ≡ own_move n ∷ []
   starts_free object reading n idle = ap (λ b. only plan barrier (not b) n) (free_by (object_of object d).actions (object_of object d) n reading refl (idle object))
 
-  alike_there : (Other : Type 0) (x y : Coming) (n : ℕ) → AreAlike (Free Running) Other x y → ((own_of n d).opened ≡ (own_of n e).opened) ⊎ GoesSimply Running x → AgreeMoves Other (acting_moves plan barrier x n d) (acting_moves plan barrier y n e)
-  alike_there Other (simply w) (simply v) n h f = same_moves refl
-  alike_there Other ending ending n h (inl is) = same_moves (leaving_there n is)
-  alike_there Other ending ending n h (inr f) = absurd f
-  alike_there Other (selecting xs) (selecting ys) n (stays h) f = same_moves (ap (λ zs. acting_moves plan barrier (selecting zs) n d) h ∙ coming_there (selecting ys) n (λ is. absurd cc))
-  alike_there Other (selecting xs) (selecting ys) n (differs other) f =
+  alike_there : (Other : Type 0) (x y : Coming) (n : ℕ) → (Moved n → ⊥) → AreAlike (Free Running) Other x y → AgreeMoves Other (acting_moves plan barrier x n d) (acting_moves plan barrier y n e)
+  alike_there Other (simply w) (simply v) n unmoved h = same_moves refl
+  alike_there Other ending ending n unmoved h = same_moves (coming_there ending n unmoved)
+  alike_there Other (selecting xs) (selecting ys) n unmoved (stays h) = same_moves (ap (λ zs. acting_moves plan barrier (selecting zs) n d) h ∙ coming_there (selecting ys) n unmoved)
+  alike_there Other (selecting xs) (selecting ys) n unmoved (differs other) =
       some_moves other
       (each_some (alternatives_of plan barrier (filter (has_queue plan barrier n d) xs)) n)
       (each_some (alternatives_of plan barrier (filter (has_queue plan barrier n e) ys)) n)
-  alike_there Other (calling t x) (calling u y) n (stays h) f =
+  alike_there Other (calling t x) (calling u y) n unmoved (stays h) =
       same_moves
-      (ap (λ z. acting_moves plan barrier (calling z x) n d) h.0 ∙ ap (λ z. acting_moves plan barrier (calling u z) n d) h.1 ∙ coming_there (calling u y) n (λ is. absurd cc))
-  alike_there Other (calling t x) (calling u y) n (differs other) f = some_moves other (call_some t x n d) (call_some u y n e)
-  alike_there Other (starting o r) (starting p q) n (stays h) f =
+      (ap (λ z. acting_moves plan barrier (calling z x) n d) h.0 ∙ ap (λ z. acting_moves plan barrier (calling u z) n d) h.1 ∙ coming_there (calling u y) n unmoved)
+  alike_there Other (calling t x) (calling u y) n unmoved (differs other) = some_moves other (call_some t x n d) (call_some u y n e)
+  alike_there Other (starting o r) (starting p q) n unmoved (stays h) =
       same_moves
-      (ap (λ z. acting_moves plan barrier (starting z r) n d) h.0 ∙ ap (λ z. acting_moves plan barrier (starting p z) n d) h.1 ∙ coming_there (starting p q) n (λ is. absurd cc))
-  alike_there Other (starting o r) (starting p q) n (differs all) f =
-      same_moves (starts_free o r n (free all) ∙ sym (starts_free p q n (free all)) ∙ coming_there (starting p q) n (λ is. absurd cc))
-  alike_there Other x y n h f = absurd cc
+      (ap (λ z. acting_moves plan barrier (starting z r) n d) h.0 ∙ ap (λ z. acting_moves plan barrier (starting p z) n d) h.1 ∙ coming_there (starting p q) n unmoved)
+  alike_there Other (starting o r) (starting p q) n unmoved (differs all) =
+      same_moves (starts_free o r n (free all) ∙ sym (starts_free p q n (free all)) ∙ coming_there (starting p q) n unmoved)
+  alike_there Other x y n unmoved h = same_moves (ap (λ c. acting_moves plan barrier c n d) h ∙ coming_there y n unmoved)
 
   idle_there : (o : Owner) → owner_idle plan barrier o d ≡ owner_idle plan barrier o e
   idle_there (owner.Task m) = refl
@@ -272,37 +277,30 @@ module _ (plan : Plan) (barrier : ℕ → Sight → Result Bool Raise) (Free : S
     moves : AgreeMoves Other (turn_moves plan barrier u n d) (turn_moves plan barrier v n e)
     acts : is_acting u ≡ is_acting v
 
-  module _ (Other : Type 0) (n : ℕ) (x y : Seen) (o q : Own) (kept : (o.opened ≡ q.opened) ⊎ GoesSimply o.status x.coming) (opened : ((own_of n d).opened ≡ (own_of n e).opened) ⊎ GoesSimply o.status x.coming) (alike : AreAlike (Free o.status) Other x.coming y.coming) (served : ServesSame Served Other o.serving) where
-    abbrev p : Own
-    p = framed q o
+  module _ (Other : Type 0) (n : ℕ) (x y : Seen) (o : Own) (unmoved : Moved n → ⊥) (alike : AreAlike (Free o.status) Other x.coming y.coming) (served : ServesSame Served Other o.serving) where
+    leave_there : (a b : Coming) → AreAlike (Free o.status) Other a b → is_leave a o ≡ is_leave b o
+    leave_there (simply w) (simply v) h = refl
+    leave_there ending ending h = refl
+    leave_there (selecting xs) (selecting ys) h = refl
+    leave_there (calling t x) (calling u y) h = refl
+    leave_there (starting x r) (starting y q) h = refl
+    leave_there a b h = ap (λ c. is_leave c o) h
 
-    same_leave : o.opened ≡ q.opened → is_leave ending o ≡ is_leave ending p
-    same_leave is = rw (construct_there o p is) refl
+    bound_there : (status : Status) → is_bound plan barrier status n (with_own x o) d ≡ is_bound plan barrier status n (with_own y o) e
+    bound_there Created = refl
+    bound_there Running = leave_there x.coming y.coming alike
+    bound_there Activating = refl
+    bound_there Accepting = refl
+    bound_there Delaying = refl
+    bound_there Calling = refl
+    bound_there Completed = refl
+    bound_there Terminated = refl
 
-    leave_there : (a b : Coming) → AreAlike (Free o.status) Other a b → (o.opened ≡ q.opened) ⊎ GoesSimply Running a → is_leave a o ≡ is_leave b p
-    leave_there (simply w) (simply v) h f = refl
-    leave_there ending ending h (inl is) = same_leave is
-    leave_there ending ending h (inr f) = absurd f
-    leave_there (selecting xs) (selecting ys) h f = refl
-    leave_there (calling t x) (calling u y) h f = refl
-    leave_there (starting x r) (starting y s) h f = refl
-    leave_there a b h f = absurd cc
-
-    bound_there : (status : Status) → (o.opened ≡ q.opened) ⊎ GoesSimply status x.coming → is_bound plan barrier status n (with_own x o) d ≡ is_bound plan barrier status n (with_own y p) e
-    bound_there Created f = refl
-    bound_there Running f = leave_there x.coming y.coming alike f
-    bound_there Activating f = refl
-    bound_there Accepting f = refl
-    bound_there Delaying f = refl
-    bound_there Calling f = refl
-    bound_there Completed f = refl
-    bound_there Terminated f = refl
-
-    deferred_there : Deferred plan barrier n (with_own x o) d ≡ Deferred plan barrier n (with_own y p) e
-    deferred_there = ap (λ b. if in_action n d then true else b) (bound_there o.status kept)
+    deferred_there : Deferred plan barrier n (with_own x o) d ≡ Deferred plan barrier n (with_own y o) e
+    deferred_there = ap (λ b. if in_action n d then true else b) (bound_there o.status)
 
     abbrev SameUsual : Option Serving → Status → Type 0
-    SameUsual serving status = SameTurn Other n (usual plan barrier serving status n (with_own x o) d) (usual plan barrier serving status n (with_own y p) e)
+    SameUsual serving status = SameTurn Other n (usual plan barrier serving status n (with_own x o) d) (usual plan barrier serving status n (with_own y o) e)
 
     serving_there : (s : Serving) (status : Status) → ServesSame Served Other (Some s) → SameUsual (Some s) status
     serving_there s status (stays same) = record { moves = same_moves (ap (λ r. serve_moves plan barrier r n) (serves same s.object)); acts = refl }
@@ -311,62 +309,68 @@ module _ (plan : Plan) (barrier : ℕ → Sight → Result Bool Raise) (Free : S
       acts = refl;
     }
 
-    usual_there : (serving : Option Serving) (status : Status) → AreAlike (Free status) Other x.coming y.coming → ServesSame Served Other serving → ((own_of n d).opened ≡ (own_of n e).opened) ⊎ GoesSimply status x.coming → SameUsual serving status
-    usual_there (Some s) status h same f = serving_there s status same
-    usual_there None Created h same f = record { moves = same_moves refl; acts = refl }
-    usual_there None Running h same f = record { moves = alike_there Other x.coming y.coming n h f; acts = refl }
-    usual_there None Activating h same f = record { moves = same_moves refl; acts = refl }
-    usual_there None Accepting h same f = record { moves = same_moves refl; acts = refl }
-    usual_there None Delaying h same f = record { moves = same_moves refl; acts = refl }
-    usual_there None Calling h same f = record { moves = same_moves (ap (λ times. map (λ time. own_move n) (filter (λ time. nat_le time d.clock) times)) (times_there (call_of o.call d))); acts = refl }
-    usual_there None Completed h same f = record { moves = same_moves refl; acts = refl }
-    usual_there None Terminated h same f = record { moves = same_moves refl; acts = refl }
+    usual_there : (serving : Option Serving) (status : Status) → AreAlike (Free status) Other x.coming y.coming → ServesSame Served Other serving → SameUsual serving status
+    usual_there (Some s) status h same = serving_there s status same
+    usual_there None Created h same = record { moves = same_moves refl; acts = refl }
+    usual_there None Running h same = record { moves = alike_there Other x.coming y.coming n unmoved h; acts = refl }
+    usual_there None Activating h same = record { moves = same_moves refl; acts = refl }
+    usual_there None Accepting h same = record { moves = same_moves refl; acts = refl }
+    usual_there None Delaying h same = record { moves = same_moves refl; acts = refl }
+    usual_there None Calling h same = record { moves = same_moves (ap (λ times. map (λ time. own_move n) (filter (λ time. nat_le time d.clock) times)) (times_there (call_of o.call d))); acts = refl }
+    usual_there None Completed h same = record { moves = same_moves refl; acts = refl }
+    usual_there None Terminated h same = record { moves = same_moves refl; acts = refl }
 
     once_there : (withdraw : Option ℕ) → SameTurn Other n (at_once plan barrier withdraw) (at_once plan barrier withdraw)
     once_there None = record { moves = same_moves refl; acts = refl }
     once_there (Some object) = record { moves = same_moves refl; acts = refl }
 
-    under_there : (abnormal : Bool) → SameTurn Other n (under_way plan barrier abnormal n (with_own x o) d) (under_way plan barrier abnormal n (with_own y p) e)
-    under_there false = usual_there o.serving o.status alike served opened
-    under_there true = by (Deferred plan barrier n (with_own x o) d) (Deferred plan barrier n (with_own y p) e) refl refl deferred_there
+    under_there : (abnormal : Bool) → SameTurn Other n (under_way plan barrier abnormal n (with_own x o) d) (under_way plan barrier abnormal n (with_own y o) e)
+    under_there false = usual_there o.serving o.status alike served
+    under_there true = by (Deferred plan barrier n (with_own x o) d) (Deferred plan barrier n (with_own y o) e) refl refl deferred_there
       where
-        by : (b c : Bool) → Deferred plan barrier n (with_own x o) d ≡ b → Deferred plan barrier n (with_own y p) e ≡ c → b ≡ c → SameTurn Other n (under_way plan barrier true n (with_own x o) d) (under_way plan barrier true n (with_own y p) e)
-        by true true f g h = rw (f, g) (usual_there o.serving o.status alike served opened)
+        by : (b c : Bool) → Deferred plan barrier n (with_own x o) d ≡ b → Deferred plan barrier n (with_own y o) e ≡ c → b ≡ c → SameTurn Other n (under_way plan barrier true n (with_own x o) d) (under_way plan barrier true n (with_own y o) e)
+        by true true f g h = rw (f, g) (usual_there o.serving o.status alike served)
         by false false f g h = rw (f, g) (once_there o.withdraw)
         by true false f g h = absurd cc
         by false true f g h = absurd cc
 
-    turn_there : (status : Status) → ((own_of n d).opened ≡ (own_of n e).opened) ⊎ GoesSimply status x.coming → SameTurn Other n (turn_by plan barrier status n (with_own x o) d) (turn_by plan barrier status n (with_own y p) e)
-    turn_there Created f = record { moves = same_moves refl; acts = refl }
-    turn_there Running f = under_there o.abnormal
-    turn_there Activating f = under_there o.abnormal
-    turn_there Accepting f = under_there o.abnormal
-    turn_there Delaying f = under_there o.abnormal
-    turn_there Calling f = under_there o.abnormal
-    turn_there Completed (inl is) = record { moves = same_moves (ap (λ os. only plan barrier (Closable (outermost os) d) n) is ∙ ap (λ b. only plan barrier b n) (closable (body_master (own_of n e)))); acts = refl }
-    turn_there Completed (inr f) = absurd f
-    turn_there Terminated f = record { moves = same_moves refl; acts = refl }
+    turn_there : (status : Status) → SameTurn Other n (turn_by plan barrier status n (with_own x o) d) (turn_by plan barrier status n (with_own y o) e)
+    turn_there Created = record { moves = same_moves refl; acts = refl }
+    turn_there Running = under_there o.abnormal
+    turn_there Activating = under_there o.abnormal
+    turn_there Accepting = under_there o.abnormal
+    turn_there Delaying = under_there o.abnormal
+    turn_there Calling = under_there o.abnormal
+    turn_there Completed = record { moves = same_moves (ap (λ os. only plan barrier (Closable (outermost os) d) n) (opened_there n unmoved) ∙ ap (λ b. only plan barrier b n) (closable (body_master (own_of n e)))); acts = refl }
+    turn_there Terminated = record { moves = same_moves refl; acts = refl }
 
-  task_there : (Other : Type 0) (n : ℕ) (t u : TaskAt Seen) → AlikeTask Free Served Other (Moved n) t u → SameTurn Other n (turn plan barrier n t d) (turn plan barrier n u e)
-  task_there Other n t u h =
-      subst (λ (o : Own). SameTurn Other n (turn plan barrier n t d) (turn plan barrier n (with_own u.control o) e)) (ap (framed u.own) h.own)
-      (turn_there Other n t.control u.control t.own u.own (or_so h.moved h.opened) (or_so h.moved (opens n)) h.coming h.serving t.own.status (or_so h.moved (opens n)))
+  abbrev AlikeOrMoved : (Other : Type 0) (n : ℕ) (t u : TaskAt Seen) → Type 0
+  AlikeOrMoved Other n t u = AlikeTask Free Served Other (Moved n) t u ⊎ (Moved n × MovedTask plan barrier d e n t u)
 
-  acts_there : (Other : ℕ → Type 0) (n k i : ℕ) (ts vs : List (TaskAt Seen)) → k + i ≡ n → AlikeTasks Free Served Other Moved k ts vs → is_acting (turn_at plan barrier (slice_get ts i) n d) ≡ is_acting (turn_at plan barrier (slice_get vs i) n e)
+  abbrev Alikes : (Other : ℕ → Type 0) (n : ℕ) (ts vs : List (TaskAt Seen)) → Type 0
+  Alikes Other n ts vs = AlikeTasks plan barrier d e Free Served Other Moved n ts vs
+
+  task_there : (Other : Type 0) (n : ℕ) (t u : TaskAt Seen) → AlikeOrMoved Other n t u → SameTurn Other n (turn plan barrier n t d) (turn plan barrier n u e)
+  task_there Other n t u (inl h) =
+      subst (λ (o : Own). SameTurn Other n (turn plan barrier n t d) (turn plan barrier n (with_own u.control o) e)) h.own
+      (turn_there Other n t.control u.control t.own h.unmoved h.coming h.serving t.own.status)
+  task_there Other n t u (inr h) = record { moves = same_moves h.1.moves; acts = h.1.acts }
+
+  acts_there : (Other : ℕ → Type 0) (n k i : ℕ) (ts vs : List (TaskAt Seen)) → k + i ≡ n → Alikes Other k ts vs → is_acting (turn_at plan barrier (slice_get ts i) n d) ≡ is_acting (turn_at plan barrier (slice_get vs i) n e)
   acts_there Other n k i [] [] at h = refl
   acts_there Other n k i [] (v ∷ vs) at h = absurd h
   acts_there Other n k i (t ∷ ts) [] at h = absurd h
   acts_there Other n k zero (t ∷ ts) (v ∷ vs) at h =
       let same : k ≡ n = omega (arith, at) in
-      (task_there (Other k) n t v (subst (λ m. AlikeTask Free Served (Other k) (Moved m) t v) same h.0)).acts
+      (task_there (Other k) n t v (subst (λ m. AlikeOrMoved (Other k) m t v) same h.0)).acts
   acts_there Other n k (suc i) (t ∷ ts) (v ∷ vs) at h = acts_there Other n (suc k) i ts vs (omega (arith, at)) h.1
 
   -- those of a task, in both
-  moves_of_task : (Other : ℕ → Type 0) (n : ℕ) (t v : TaskAt Seen) → AlikeTask Free Served (Other n) (Moved n) t v → AgreeMoves (Other n) (turn_moves plan barrier (turn plan barrier n t d) n d) (turn_moves plan barrier (turn plan barrier n v e) n e)
+  moves_of_task : (Other : ℕ → Type 0) (n : ℕ) (t v : TaskAt Seen) → AlikeOrMoved (Other n) n t v → AgreeMoves (Other n) (turn_moves plan barrier (turn plan barrier n t d) n d) (turn_moves plan barrier (turn plan barrier n v e) n e)
   moves_of_task Other n t v h = (task_there (Other n) n t v h).moves
 
   -- where they differ of no task
-  all_there : (n : ℕ) (ts vs : List (TaskAt Seen)) → AlikeTasks Free Served (λ k. ⊥) Moved n ts vs → moves_from plan barrier n ts d ≡ moves_from plan barrier n vs e
+  all_there : (n : ℕ) (ts vs : List (TaskAt Seen)) → Alikes (λ k. ⊥) n ts vs → moves_from plan barrier n ts d ≡ moves_from plan barrier n vs e
   all_there n [] [] h = refl
   all_there n [] (v ∷ vs) h = absurd h
   all_there n (t ∷ ts) [] h = absurd h
@@ -375,10 +379,10 @@ module _ (plan : Plan) (barrier : ℕ → Sight → Result Bool Raise) (Free : S
       ∙ ap (λ ms. turn_moves plan barrier (turn plan barrier n v e) n e ++ ms) (all_there (suc n) ts vs h.1)
 
   -- the same of such a task in both, and of all
-  pub quiet_task : (Other : Type 0) (n : ℕ) (t v : TaskAt Seen) → (Other → HasSome (turn_moves plan barrier (turn plan barrier n t d) n d) → ⊥) → AlikeTask Free Served Other (Moved n) t v → turn_moves plan barrier (turn plan barrier n t d) n d ≡ turn_moves plan barrier (turn plan barrier n v e) n e
+  pub quiet_task : (Other : Type 0) (n : ℕ) (t v : TaskAt Seen) → (Other → HasSome (turn_moves plan barrier (turn plan barrier n t d) n d) → ⊥) → AlikeOrMoved Other n t v → turn_moves plan barrier (turn plan barrier n t d) n d ≡ turn_moves plan barrier (turn plan barrier n v e) n e
   quiet_task Other n t v quiet h = quiet_same Other _ _ quiet (task_there Other n t v h).moves
 
-  quiet_there : (Other : ℕ → Type 0) (n : ℕ) (ts vs : List (TaskAt Seen)) → Quiet plan barrier d Other n ts → AlikeTasks Free Served Other Moved n ts vs → moves_from plan barrier n ts d ≡ moves_from plan barrier n vs e
+  quiet_there : (Other : ℕ → Type 0) (n : ℕ) (ts vs : List (TaskAt Seen)) → Quiet plan barrier d Other n ts → Alikes Other n ts vs → moves_from plan barrier n ts d ≡ moves_from plan barrier n vs e
   quiet_there Other n [] [] quiet h = refl
   quiet_there Other n [] (v ∷ vs) quiet h = absurd h
   quiet_there Other n (t ∷ ts) [] quiet h = absurd h
@@ -387,7 +391,7 @@ module _ (plan : Plan) (barrier : ℕ → Sight → Result Bool Raise) (Free : S
       ∙ ap (λ l. turn_moves plan barrier (turn plan barrier n v e) n e ++ l) (quiet_there Other (suc n) ts vs quiet.1 h.1)
 
   -- none in both, where there is none in the one
-  none_there : (Other : ℕ → Type 0) (n : ℕ) (ts vs : List (TaskAt Seen)) → AlikeTasks Free Served Other Moved n ts vs → moves_from plan barrier n ts d ≡ [] → moves_from plan barrier n vs e ≡ []
+  none_there : (Other : ℕ → Type 0) (n : ℕ) (ts vs : List (TaskAt Seen)) → Alikes Other n ts vs → moves_from plan barrier n ts d ≡ [] → moves_from plan barrier n vs e ≡ []
   none_there Other n [] [] h none = refl
   none_there Other n [] (v ∷ vs) h none = absurd h
   none_there Other n (t ∷ ts) [] h none = absurd h
@@ -421,7 +425,7 @@ module _ (plan : Plan) (barrier : ℕ → Sight → Result Bool Raise) (Free : S
     first_by n (m ∷ ms) ns rest left others theirs (some_moves other some there) first here none =
         absurd (other (sym theirs.0 ∙ ap (λ (x : Move). x.task) (head_of m (own_move of) (ms ++ rest) others first)))
 
-    first_there : (n : ℕ) (ts vs : List (TaskAt Seen)) (others : List Move) → AlikeTasks Free Served Others Moved n ts vs → moves_from plan barrier n ts d ≡ own_move of ∷ others → Behind others (moves_from plan barrier n vs e)
+    first_there : (n : ℕ) (ts vs : List (TaskAt Seen)) (others : List Move) → Alikes Others n ts vs → moves_from plan barrier n ts d ≡ own_move of ∷ others → Behind others (moves_from plan barrier n vs e)
     first_there n [] [] others h first = absurd cc
     first_there n [] (v ∷ vs) others h first = absurd h
     first_there n (t ∷ ts) [] others h first = absurd h
@@ -434,25 +438,28 @@ module _ (plan : Plan) (barrier : ℕ → Sight → Result Bool Raise) (Free : S
         (λ none. first_there (suc n) ts vs others h.1 (sym (ap (λ l. l ++ rest) none) ∙ first))
         (none_there Others (suc n) ts vs h.1)
 
-module _ (plan : Plan) (barrier : ℕ → Sight → Result Bool Raise) (Free : Status → Type 0) (Served : Type 0) (Moved Other : ℕ → Type 0) (d : All Seen) (free : Free Running → AreIdle d) (us : List (TaskAt Seen)) (left : Left) (choices : List ℕ) (steps : ℕ) (serves : Served → ServesAlike plan barrier d (elsewhere us left choices steps d)) (alike : AlikeTasks Free Served Other Moved 0 d.tasks us) where
+module _ (plan : Plan) (barrier : ℕ → Sight → Result Bool Raise) (Free : Status → Type 0) (Served : Type 0) (Moved Other : ℕ → Type 0) (d : All Seen) (free : Free Running → AreIdle d) (us : List (TaskAt Seen)) (left : Left) (choices : List ℕ) (steps : ℕ) (serves : Served → ServesAlike plan barrier d (elsewhere us left choices steps d)) (alike : AlikeTasks plan barrier d (elsewhere us left choices steps d) Free Served Other Moved 0 d.tasks us) where
   abbrev there : All Seen
   there = elsewhere us left choices steps d
 
-  ended_there : (n : ℕ) (ts vs : List (TaskAt Seen)) → AlikeTasks Free Served Other Moved n ts vs → has_ended plan barrier ts ≡ has_ended plan barrier vs
+  abbrev AlikeFrom : ℕ → List (TaskAt Seen) → List (TaskAt Seen) → Type 0
+  AlikeFrom n ts vs = AlikeTasks plan barrier d (elsewhere us left choices steps d) Free Served Other Moved n ts vs
+
+  ended_there : (n : ℕ) (ts vs : List (TaskAt Seen)) → AlikeFrom n ts vs → has_ended plan barrier ts ≡ has_ended plan barrier vs
   ended_there n [] [] h = refl
   ended_there n [] (v ∷ vs) h = absurd h
   ended_there n (t ∷ ts) [] h = absurd h
-  ended_there n (t ∷ ts) (v ∷ vs) h = ap (λ (o : Own). has_ended plan barrier (record t { own = o } ∷ ts)) h.0.own
+  ended_there n (t ∷ ts) (v ∷ vs) h = ap (λ (o : Own). has_ended plan barrier (record t { own = o } ∷ ts)) (bare_same plan barrier d (elsewhere us left choices steps d) Free Served (Other n) (Moved n) n t v h.0)
 
   pub as_ended : has_ended plan barrier d.tasks ≡ has_ended plan barrier us
   as_ended = ended_there 0 d.tasks us alike
 
   -- and its own statements go on at the next step of a task in both, or in neither
   pub acting_there : (n : ℕ) → is_acting (turn_at plan barrier (slice_get d.tasks n) n d) ≡ is_acting (turn_at plan barrier (slice_get us n) n there)
-  acting_there n = acts_there plan barrier Free Served d free us left choices steps serves Moved (bares_alike Free Served Other Moved 0 d.tasks us alike) (λ k. opened_alike Free Served Other Moved 0 k k d.tasks us (omega arith) alike) Other n 0 n d.tasks us (omega arith) alike
+  acting_there n = acts_there plan barrier Free Served d free us left choices steps serves Moved (bares_alike plan barrier d (elsewhere us left choices steps d) Free Served Other Moved 0 d.tasks us alike) (λ k. opened_alike plan barrier d (elsewhere us left choices steps d) Free Served Other Moved 0 k k d.tasks us (omega arith) alike) Other n 0 n d.tasks us (omega arith) alike
 
 -- nothing differs
-module _ (plan : Plan) (barrier : ℕ → Sight → Result Bool Raise) (Free : Status → Type 0) (Served : Type 0) (Moved : ℕ → Type 0) (d : All Seen) (free : Free Running → AreIdle d) (us : List (TaskAt Seen)) (left : Left) (choices : List ℕ) (steps : ℕ) (serves : Served → ServesAlike plan barrier d (elsewhere us left choices steps d)) (alike : AlikeTasks Free Served (λ k. ⊥) Moved 0 d.tasks us) where
+module _ (plan : Plan) (barrier : ℕ → Sight → Result Bool Raise) (Free : Status → Type 0) (Served : Type 0) (Moved : ℕ → Type 0) (d : All Seen) (free : Free Running → AreIdle d) (us : List (TaskAt Seen)) (left : Left) (choices : List ℕ) (steps : ℕ) (serves : Served → ServesAlike plan barrier d (elsewhere us left choices steps d)) (alike : AlikeTasks plan barrier d (elsewhere us left choices steps d) Free Served (λ k. ⊥) Moved 0 d.tasks us) where
   abbrev same_there : All Seen
   same_there = there plan barrier Free Served Moved (λ k. ⊥) d free us left choices steps serves alike
 
@@ -462,10 +469,10 @@ module _ (plan : Plan) (barrier : ℕ → Sight → Result Bool Raise) (Free : S
       by : (ended cut : Bool) → moves_by plan barrier ended cut d ≡ moves_by plan barrier ended cut same_there
       by true cut = refl
       by false true = refl
-      by false false = all_there plan barrier Free Served d free us left choices steps serves Moved (bares_alike Free Served (λ k. ⊥) Moved 0 d.tasks us alike) (λ k. opened_alike Free Served (λ k. ⊥) Moved 0 k k d.tasks us (omega arith) alike) 0 d.tasks us alike
+      by false false = all_there plan barrier Free Served d free us left choices steps serves Moved (bares_alike plan barrier d (elsewhere us left choices steps d) Free Served (λ k. ⊥) Moved 0 d.tasks us alike) (λ k. opened_alike plan barrier d (elsewhere us left choices steps d) Free Served (λ k. ⊥) Moved 0 k k d.tasks us (omega arith) alike) 0 d.tasks us alike
 
 -- nothing differs of the task of a number
-module _ (plan : Plan) (barrier : ℕ → Sight → Result Bool Raise) (Free : Status → Type 0) (Served : Type 0) (Moved : ℕ → Type 0) (of : ℕ) (d : All Seen) (free : Free Running → AreIdle d) (us : List (TaskAt Seen)) (left : Left) (choices : List ℕ) (steps : ℕ) (serves : Served → ServesAlike plan barrier d (elsewhere us left choices steps d)) (alike : AlikeTasks Free Served (λ k. ¬ (k ≡ of)) Moved 0 d.tasks us) where
+module _ (plan : Plan) (barrier : ℕ → Sight → Result Bool Raise) (Free : Status → Type 0) (Served : Type 0) (Moved : ℕ → Type 0) (of : ℕ) (d : All Seen) (free : Free Running → AreIdle d) (us : List (TaskAt Seen)) (left : Left) (choices : List ℕ) (steps : ℕ) (serves : Served → ServesAlike plan barrier d (elsewhere us left choices steps d)) (alike : AlikeTasks plan barrier d (elsewhere us left choices steps d) Free Served (λ k. ¬ (k ≡ of)) Moved 0 d.tasks us) where
   abbrev Different : ℕ → Type 0
   Different k = ¬ (k ≡ of)
 
@@ -480,10 +487,10 @@ module _ (plan : Plan) (barrier : ℕ → Sight → Result Bool Raise) (Free : S
       by : (ended cut : Bool) → moves_by plan barrier ended cut d ≡ own_move of ∷ others → (more : List Move) × (moves_by plan barrier ended cut other_there ≡ own_move of ∷ more) × (others ≡ [] → more ≡ [])
       by true cut h = absurd cc
       by false true h = absurd cc
-      by false false h = first_there plan barrier Free Served d free us left choices steps serves Moved (bares_alike Free Served Different Moved 0 d.tasks us alike) (λ k. opened_alike Free Served Different Moved 0 k k d.tasks us (omega arith) alike) of 0 d.tasks us others alike h
+      by false false h = first_there plan barrier Free Served d free us left choices steps serves Moved (bares_alike plan barrier d (elsewhere us left choices steps d) Free Served Different Moved 0 d.tasks us alike) (λ k. opened_alike plan barrier d (elsewhere us left choices steps d) Free Served Different Moved 0 k k d.tasks us (omega arith) alike) of 0 d.tasks us others alike h
 
 -- those of which they may differ have none
-module _ (plan : Plan) (barrier : ℕ → Sight → Result Bool Raise) (Free : Status → Type 0) (Served : Type 0) (Moved Other : ℕ → Type 0) (d : All Seen) (free : Free Running → AreIdle d) (us : List (TaskAt Seen)) (left : Left) (choices : List ℕ) (steps : ℕ) (serves : Served → ServesAlike plan barrier d (elsewhere us left choices steps d)) (alike : AlikeTasks Free Served Other Moved 0 d.tasks us) where
+module _ (plan : Plan) (barrier : ℕ → Sight → Result Bool Raise) (Free : Status → Type 0) (Served : Type 0) (Moved Other : ℕ → Type 0) (d : All Seen) (free : Free Running → AreIdle d) (us : List (TaskAt Seen)) (left : Left) (choices : List ℕ) (steps : ℕ) (serves : Served → ServesAlike plan barrier d (elsewhere us left choices steps d)) (alike : AlikeTasks plan barrier d (elsewhere us left choices steps d) Free Served Other Moved 0 d.tasks us) where
   abbrev quietly_there : All Seen
   quietly_there = there plan barrier Free Served Moved Other d free us left choices steps serves alike
 
@@ -493,7 +500,7 @@ module _ (plan : Plan) (barrier : ℕ → Sight → Result Bool Raise) (Free : S
       by : (ended cut : Bool) → moves_by plan barrier ended cut d ≡ moves_by plan barrier ended cut quietly_there
       by true cut = refl
       by false true = refl
-      by false false = quiet_there plan barrier Free Served d free us left choices steps serves Moved (bares_alike Free Served Other Moved 0 d.tasks us alike) (λ k. opened_alike Free Served Other Moved 0 k k d.tasks us (omega arith) alike) Other 0 d.tasks us quiet alike
+      by false false = quiet_there plan barrier Free Served d free us left choices steps serves Moved (bares_alike plan barrier d (elsewhere us left choices steps d) Free Served Other Moved 0 d.tasks us alike) (λ k. opened_alike plan barrier d (elsewhere us left choices steps d) Free Served Other Moved 0 k k d.tasks us (omega arith) alike) Other 0 d.tasks us quiet alike
 
-  pub task_quiet : (n : ℕ) (t v : TaskAt Seen) → (Other n → HasSome (turn_moves plan barrier (turn plan barrier n t d) n d) → ⊥) → AlikeTask Free Served (Other n) (Moved n) t v → turn_moves plan barrier (turn plan barrier n t d) n d ≡ turn_moves plan barrier (turn plan barrier n v quietly_there) n quietly_there
-  task_quiet n t v quiet h = quiet_task plan barrier Free Served d free us left choices steps serves Moved (bares_alike Free Served Other Moved 0 d.tasks us alike) (λ k. opened_alike Free Served Other Moved 0 k k d.tasks us (omega arith) alike) (Other n) n t v quiet h
+  pub task_quiet : (n : ℕ) (t v : TaskAt Seen) → (Other n → HasSome (turn_moves plan barrier (turn plan barrier n t d) n d) → ⊥) → AlikeTask Free Served (Other n) (Moved n) t v ⊎ (Moved n × MovedTask plan barrier d quietly_there n t v) → turn_moves plan barrier (turn plan barrier n t d) n d ≡ turn_moves plan barrier (turn plan barrier n v quietly_there) n quietly_there
+  task_quiet n t v quiet h = quiet_task plan barrier Free Served d free us left choices steps serves Moved (bares_alike plan barrier d (elsewhere us left choices steps d) Free Served Other Moved 0 d.tasks us alike) (λ k. opened_alike plan barrier d (elsewhere us left choices steps d) Free Served Other Moved 0 k k d.tasks us (omega arith) alike) (Other n) n t v quiet h

@@ -1,7 +1,7 @@
 -- The list of moves stays as it is where each task that has one acts simply, one of these goes on to another simple step, and no action
 -- is to begin or all objects are idle.
 use Rattle.std.specs.Prelude.{IfSome}
-use Rattle.std.proofs.Common.{◌≡◌, ◌+◌, ◌⊎◌, inl, inr, ℕ, zero, suc, List, [], ◌∷◌, Option, Some, None, Bool, true, false, not, refl, ap, sym, subst, ◌∙◌, slice_get, slice_index_or, arith}
+use Rattle.std.proofs.Common.{◌≡◌, ◌<◌, ◌+◌, ◌⊎◌, inl, inr, ℕ, zero, suc, List, [], ◌∷◌, Option, Some, None, Bool, true, false, not, refl, ap, sym, subst, ◌∙◌, slice_get, slice_index_or, arith}
 use Rattle.std.proofs.lemmas.Option.{same_Some}
 use Rattle.aud_typed.specs.Tree.{Plan}
 use Rattle.aud_meaning.specs.declared.state.Move.{Move}
@@ -18,7 +18,6 @@ use Rattle.aud_code.specs.Flat.{Flat, barrier_at, flat_controls, coming_at}
 use Rattle.aud_code.specs.View.{EndsPlainly}
 use Rattle.aud_state.specs.Fast.{stands_so}
 use Rattle.aud_state.specs.Reads.{IsPlain, coming_by}
-use Rattle.aud_sequential.specs.Fast.{ComesPlainly}
 use Rattle.aud_tasks.specs.Choices.{IsNoStart}
 use Rattle.aud_tasks.specs.Moving.{IsSimple, has_some, moves_of}
 use Rattle.aud_tasks.specs.Turning.{coming_in, turn_in}
@@ -26,8 +25,9 @@ use Rattle.aud_tasks.specs.Running.{AreIdle, AreSimple, AreSteady, BeginsNone}
 use Rattle.aud_tasks.proofs.StepLaws.Turning.{turn_plain}
 use Rattle.aud_tasks.proofs.ViewLaws.Seen.{one_seen, seen_at}
 use Rattle.aud_tasks.proofs.Running.Moves as moves
-use Rattle.aud_tasks.proofs.Running.Moves.{AreAlike, AlikeTasks, GoesSimply, HasSome, left_in, stays, differs}
-use Rattle.aud_tasks.proofs.Running.Still.{GoesThere, changed_other, comes_alike, goes_alike, goes_simply, gone_on, still_no_start}
+use Rattle.aud_tasks.proofs.Running.Moves.{AreAlike, AlikeTasks, HasSome, left_in, stays, differs}
+use Rattle.aud_tasks.proofs.MoveLaws.Moving.{runs_simply}
+use Rattle.aud_tasks.proofs.Running.Still.{changed_other, comes_alike, gone_on, here_changed, moved_by, plain_there, still_no_start}
 
 -- at a select or a call
 abbrev IsChoice : Coming → Type 0
@@ -77,19 +77,6 @@ own_at [] n t at = absurd cc
 own_at (x ∷ ts) zero t at = ap (λ (y : TaskAt Spot). y.own) (same_Some x t at)
 own_at (x ∷ ts) (suc n) t at = own_at ts n t at
 
--- a task stays plain where one stands elsewhere
-plain_there : (p : Part Spot) (m k : ℕ) (ts : List (TaskAt Spot)) → IsPlain (slice_index_or (owns ts) k nobody) → IsPlain (slice_index_or (owns (changed m (stands_so p) ts)) k nobody)
-plain_there p m k [] h = h
-plain_there p zero zero (t ∷ ts) h = record { runs = h.runs; normal = h.normal; free = h.free }
-plain_there p zero (suc k) (t ∷ ts) h = h
-plain_there p (suc m) zero (t ∷ ts) h = h
-plain_there p (suc m) (suc k) (t ∷ ts) h = plain_there p m k ts h
-
-pub here_changed : (p : Part Spot) (n : ℕ) (t : TaskAt Spot) (ts : List (TaskAt Spot)) → slice_get ts n ≡ Some t → slice_get (changed n (stands_so p) ts) n ≡ Some (stands_so p t)
-here_changed p n t [] at = absurd cc
-here_changed p zero t (x ∷ ts) at = ap (λ (y : TaskAt Spot). Some (stands_so p y)) (same_Some x t at)
-here_changed p (suc n) t (x ∷ ts) at = here_changed p n t ts at
-
 -- a task is this one, or another
 same_or_other : (k n : ℕ) → (k ≡ n) ⊎ (k ≡ n → ⊥)
 same_or_other zero zero = inl refl
@@ -100,10 +87,6 @@ same_or_other (suc k) (suc n) = by (same_or_other k n)
     by : (k ≡ n) ⊎ (k ≡ n → ⊥) → (suc k ≡ suc n) ⊎ (suc k ≡ suc n → ⊥)
     by (inl is) = inl (ap suc is)
     by (inr other) = inr (λ is. other (omega (arith, is)))
-
-pub plain_simple : (x : Coming) → ComesPlainly x → IsSimple x
-plain_simple (simply w) h = tt
-plain_simple x h = absurd h
 
 pub simple_alike : (x y : Coming) → AreAlike ⊥ (Unit {0}) x y → IsSimple x → IsSimple y
 simple_alike (simply w) (simply v) h simple = tt
@@ -139,7 +122,7 @@ module _ (plan : Plan) (code : Flat) where
   seen_task i t os shared = record { control = record { coming = coming_at code plan t.own.pending (sight_in i os shared) t.control; place = shown_place plan K t.own.pending t.control }; own = t.own }
 
   -- a task that acts simply goes on to another simple step
-  module _ (plain : EndsPlainly code) (c : All Spot) (n : ℕ) (steady : AreSteady plan code c) (t : TaskAt Spot) (p : Part Spot) (at : slice_get c.tasks n ≡ Some t) (goes : GoesThere plan code t p) where
+  module _ (plain : EndsPlainly code) (c : All Spot) (n : ℕ) (steady : AreSteady plan code c) (t : TaskAt Spot) (p : Part Spot) (at : slice_get c.tasks n ≡ Some t) (own_plain : IsPlain (own_of n c)) (here_simple : IsSimple (coming_in plan code n c)) (there_simple : IsSimple (coming_in plan code n (gone_on n p c))) where
     abbrev gone : All Spot
     gone = gone_on n p c
 
@@ -171,22 +154,16 @@ module _ (plan : Plan) (code : Flat) where
     serves_nothing None is = tt
     serves_nothing (Some s) is = absurd cc
 
-    other_alike : (k : ℕ) (x : TaskAt Spot) → slice_get c.tasks k ≡ Some x → Alike k x x
-    other_alike k x there = by (plainness x.own)
+    other_alike : (k : ℕ) (x : TaskAt Spot) → (k ≡ n → ⊥) → slice_get c.tasks k ≡ Some x → Alike k x x
+    other_alike k x unmoved there = by (plainness x.own)
       where
         open_to : IsNoStart (coming_at code plan x.own.pending (sight_of k c) x.control) ⊎ (x.own.status ≡ Running → AreIdle c)
         open_to = opens steady.starts k x there x.own.status refl
 
-        moves_simply : k ≡ n → GoesSimply x.own.status (coming_at code plan x.own.pending (sight_of k c) x.control)
-        moves_simply is =
-            subst (λ (y : TaskAt Spot). GoesSimply y.own.status (coming_at code plan y.own.pending (sight_of k c) y.control)) (same_Some t x (sym at ∙ ap (slice_get c.tasks) (sym is) ∙ there))
-            (goes_simply plan code (AreIdle c) plain (owns c.tasks) (owns gone.tasks) c.shared gone.shared n t p (sight_of k c) goes)
-
         by : IsPlain x.own ⊎ (IsPlain x.own → ⊥) → Alike k x x
         by (inl is) = record {
+          unmoved = unmoved;
           own = refl;
-          opened = inl refl;
-          moved = moves_simply;
           coming = unchosen_alike (Free x.own.status) (Other k)
               (coming_at code plan x.own.pending (sight_of k c) x.control) (coming_at code plan x.own.pending (sight_of k gone) x.control)
               (λ choice. no_choice k c steady.simple (subst IsPlain (sym (own_at c.tasks k x there)) is) (subst IsChoice (sym (comes_in k x there)) choice))
@@ -196,47 +173,48 @@ module _ (plan : Plan) (code : Flat) where
         by (inr not) =
             let other : Other k = λ is. not (subst IsPlain (own_at c.tasks k x there) is) in
             record {
+              unmoved = unmoved;
               own = refl;
-              opened = inl refl;
-              moved = moves_simply;
               coming = comes_alike (Free x.own.status) (Other k) other plan (sight_of k c) (sight_of k gone) code plain x.own.pending x.control open_to;
               serving = differs other;
             }
 
-    own_alike : (i : ℕ) (x : TaskAt Spot) → i ≡ n → GoesThere plan code x p → Alike i x (stands_so p x)
-    own_alike i x is there = record {
-      own = refl;
-      opened = inr is;
-      moved = λ it. goes_simply plan code (AreIdle c) plain (owns c.tasks) (owns gone.tasks) c.shared gone.shared n x p (sight_of i c) there;
-      coming = goes_alike plan code (AreIdle c) plain (owns c.tasks) (owns gone.tasks) c.shared gone.shared n (Free x.own.status) (Other i) i x p there;
-      serving = stays there.services;
-    }
+    abbrev Element : ℕ → TaskAt Spot → TaskAt Spot → Type 0
+    Element i x y = Alike i x y ⊎ ((i ≡ n) × moves.MovedTask plan K.barrier (seen plan K c) (seen plan K gone) i (seen_task i x (owns c.tasks) c.shared) (seen_task i y (owns gone.tasks) gone.shared))
+
+    moved : moves.MovedTask plan K.barrier (seen plan K c) (seen plan K gone) n (seen_task n t (owns c.tasks) c.shared) (seen_task n (stands_so p t) (owns gone.tasks) gone.shared)
+    moved =
+        let after = plain_there p n n c.tasks own_plain in
+        moved_by plan code n p c t at own_plain after (runs_simply plan code c n own_plain here_simple) (runs_simply plan code gone n after there_simple)
 
     abbrev EachAlike : ℕ → List (TaskAt Spot) → Type 0
     EachAlike i [] = Unit {0}
-    EachAlike i (x ∷ ts) = Alike i x x × EachAlike (suc i) ts
+    EachAlike i (x ∷ ts) = ((i ≡ n → ⊥) → Alike i x x) × EachAlike (suc i) ts
 
-    each_alike : (i : ℕ) (ts : List (TaskAt Spot)) → ((k j : ℕ) (x : TaskAt Spot) → k ≡ i + j → slice_get ts j ≡ Some x → Alike k x x) → EachAlike i ts
+    each_alike : (i : ℕ) (ts : List (TaskAt Spot)) → ((k j : ℕ) (x : TaskAt Spot) → k ≡ i + j → slice_get ts j ≡ Some x → (k ≡ n → ⊥) → Alike k x x) → EachAlike i ts
     each_alike i [] h = tt
     each_alike i (x ∷ ts) h = (h i 0 x (omega arith) refl, each_alike (suc i) ts (λ k j y is there. h k (suc j) y (omega (arith, is)) there))
 
     abbrev AllAlike : ℕ → List (TaskAt Spot) → List (TaskAt Spot) → Type 0
-    AllAlike i ts us = AlikeTasks Free ⊥ Other (λ k. k ≡ n) i (seen_from plan K i ts (owns c.tasks) c.shared) (seen_from plan K i us (owns gone.tasks) gone.shared)
+    AllAlike i ts us = AlikeTasks plan K.barrier (seen plan K c) (seen plan K gone) Free ⊥ Other (λ k. k ≡ n) i (seen_from plan K i ts (owns c.tasks) c.shared) (seen_from plan K i us (owns gone.tasks) gone.shared)
 
-    behind_alike : (i : ℕ) (ts : List (TaskAt Spot)) → EachAlike i ts → AllAlike i ts ts
-    behind_alike i [] each = tt
-    behind_alike i (x ∷ ts) each = (each.0, behind_alike (suc i) ts each.1)
+    behind_alike : (i : ℕ) (ts : List (TaskAt Spot)) → n < i → EachAlike i ts → AllAlike i ts ts
+    behind_alike i [] past each = tt
+    behind_alike i (x ∷ ts) past each = (inl (each.0 (λ is. omega (arith, is, past))), behind_alike (suc i) ts (omega (arith, past)) each.1)
 
     all_alike : (m i : ℕ) (ts : List (TaskAt Spot)) → i + m ≡ n → slice_get ts m ≡ Some t → EachAlike i ts → AllAlike i ts (changed m (stands_so p) ts)
     all_alike m i [] here is each = tt
-    all_alike zero i (x ∷ ts) here is each = (own_alike i x (omega (arith, here)) (subst (λ (y : TaskAt Spot). GoesThere plan code y p) (sym (same_Some x t is)) goes), behind_alike (suc i) ts each.1)
-    all_alike (suc m) i (x ∷ ts) here is each = (each.0, all_alike m (suc i) ts (omega (arith, here)) is each.1)
+    all_alike zero i (x ∷ ts) here is each =
+        let same : i ≡ n = omega (arith, here) in
+        let element : Element n x (stands_so p x) = subst (λ (y : TaskAt Spot). Element n y (stands_so p y)) (sym (same_Some x t is)) (inr (refl, moved)) in
+        (subst (λ k. Element k x (stands_so p x)) (sym same) element, behind_alike (suc i) ts (omega (arith, here)) each.1)
+    all_alike (suc m) i (x ∷ ts) here is each = (inl (each.0 (λ same. omega (arith, same, here))), all_alike m (suc i) ts (omega (arith, here)) is each.1)
 
     abbrev d : All Seen
     d = seen plan K c
 
-    alike_gone : AlikeTasks Free ⊥ Other (λ k. k ≡ n) 0 d.tasks (seen plan K gone).tasks
-    alike_gone = all_alike n 0 c.tasks (omega arith) at (each_alike 0 c.tasks (λ k j x is there. let same : k ≡ j = omega (arith, is) in other_alike k x (ap (slice_get c.tasks) same ∙ there)))
+    alike_gone : AlikeTasks plan K.barrier d (seen plan K gone) Free ⊥ Other (λ k. k ≡ n) 0 d.tasks (seen plan K gone).tasks
+    alike_gone = all_alike n 0 c.tasks (omega arith) at (each_alike 0 c.tasks (λ k j x is there unmoved. let same : k ≡ j = omega (arith, is) in other_alike k x unmoved (ap (slice_get c.tasks) same ∙ there)))
 
     -- one that has moves is plain
     seen_there : (k : ℕ) (x : TaskAt Spot) → slice_get c.tasks k ≡ Some x → slice_get d.tasks k ≡ Some (seen_task k x (owns c.tasks) c.shared)
@@ -262,68 +240,63 @@ module _ (plan : Plan) (code : Flat) where
     moves_steady = moves.moves_quiet plan K.barrier Free ⊥ (λ k. k ≡ n) Other d (λ idle. idle refl) (seen plan K gone).tasks (left_in gone.shared) c.choices (suc c.steps) (λ none. absurd none) alike_gone quiet_all
 
     -- and it is so behind the step
-    module _ (own_plain : IsPlain (own_of n c)) where
-      moves_stay : (k : ℕ) (x : TaskAt Spot) → slice_get c.tasks k ≡ Some x → slice_get gone.tasks k ≡ Some x → moves_of plan code k c ≡ moves_of plan code k gone
-      moves_stay k x there after =
-          ap (λ w. turn_moves plan K.barrier w k d) (turn_there k x there)
-          ∙ moves.task_quiet plan K.barrier Free ⊥ (λ k. k ≡ n) Other d (λ idle. idle refl) (seen plan K gone).tasks (left_in gone.shared) c.choices (suc c.steps) (λ none. absurd none) alike_gone k
-          (seen_task k x (owns c.tasks) c.shared) (seen_task k x (owns gone.tasks) gone.shared)
-          (λ other some. other (steady.simple k (some_there k x there some)).0) (other_alike k x there)
-          ∙ sym (ap (λ o. turn_moves plan K.barrier (turn_at plan K.barrier o k (seen plan K gone)) k (seen plan K gone))
-          (seen_at plan code 0 k k gone.tasks (owns gone.tasks) gone.shared (omega arith) ∙ ap (one_seen plan code k (owns gone.tasks) gone.shared) after))
+    moves_stay : (k : ℕ) (x : TaskAt Spot) → (k ≡ n → ⊥) → slice_get c.tasks k ≡ Some x → slice_get gone.tasks k ≡ Some x → moves_of plan code k c ≡ moves_of plan code k gone
+    moves_stay k x unmoved there after =
+        ap (λ w. turn_moves plan K.barrier w k d) (turn_there k x there)
+        ∙ moves.task_quiet plan K.barrier Free ⊥ (λ k. k ≡ n) Other d (λ idle. idle refl) (seen plan K gone).tasks (left_in gone.shared) c.choices (suc c.steps) (λ none. absurd none) alike_gone k
+        (seen_task k x (owns c.tasks) c.shared) (seen_task k x (owns gone.tasks) gone.shared)
+        (λ other some. other (steady.simple k (some_there k x there some)).0) (inl (other_alike k x unmoved there))
+        ∙ sym (ap (λ o. turn_moves plan K.barrier (turn_at plan K.barrier o k (seen plan K gone)) k (seen plan K gone))
+        (seen_at plan code 0 k k gone.tasks (owns gone.tasks) gone.shared (omega arith) ∙ ap (one_seen plan code k (owns gone.tasks) gone.shared) after))
 
-      plain_gone : (k : ℕ) → IsPlain (own_of k c) → IsPlain (own_of k gone)
-      plain_gone k h = plain_there p n k c.tasks h
+    plain_gone : (k : ℕ) → IsPlain (own_of k c) → IsPlain (own_of k gone)
+    plain_gone k h = plain_there p n k c.tasks h
 
-      abbrev Simple : ℕ → Type 0
-      Simple k = IsPlain (own_of k gone) × IsSimple (coming_in plan code k gone)
+    abbrev Simple : ℕ → Type 0
+    Simple k = IsPlain (own_of k gone) × IsSimple (coming_in plan code k gone)
 
-      here_simple : (k : ℕ) → k ≡ n → Simple k
-      here_simple k is = subst Simple (sym is) (
-        plain_gone n own_plain,
-        subst IsSimple (sym (ap (coming_by code plan (sight_of n gone)) (here_changed p n t c.tasks at) ∙ ap (λ x. coming_at code plan x (sight_of n gone) p.control) goes.none_there))
-            (plain_simple (coming_at code plan None (sight_of n gone) p.control) (goes.there (sight_of n gone))),
-      )
+    own_simple : (k : ℕ) → k ≡ n → Simple k
+    own_simple k is = subst Simple (sym is) (plain_gone n own_plain, there_simple)
 
-      other_simple : (k : ℕ) (x : TaskAt Spot) → (k ≡ n → ⊥) → slice_get c.tasks k ≡ Some x → has_some (moves_of plan code k gone) ≡ true → Simple k
-      other_simple k x other there some =
-          let after : slice_get gone.tasks k ≡ Some x = changed_other n k (stands_so p) c.tasks other ∙ there in
-          let was = steady.simple k (ap has_some (moves_stay k x there after) ∙ some) in
-          let simple : IsSimple (coming_at code plan x.own.pending (sight_of k c) x.control) = subst IsSimple (comes_in k x there) was.1 in (
-            plain_gone k was.0,
-            subst IsSimple (sym (ap (coming_by code plan (sight_of k gone)) after))
-                (simple_alike (coming_at code plan x.own.pending (sight_of k c) x.control) (coming_at code plan x.own.pending (sight_of k gone) x.control)
-                (comes_alike ⊥ (Unit {0}) tt plan (sight_of k c) (sight_of k gone) code plain x.own.pending x.control (inl (simple_no_start _ simple))) simple),
-          )
+    other_simple : (k : ℕ) (x : TaskAt Spot) → (k ≡ n → ⊥) → slice_get c.tasks k ≡ Some x → has_some (moves_of plan code k gone) ≡ true → Simple k
+    other_simple k x other there some =
+        let after : slice_get gone.tasks k ≡ Some x = changed_other n k (stands_so p) c.tasks other ∙ there in
+        let was = steady.simple k (ap has_some (moves_stay k x other there after) ∙ some) in
+        let simple : IsSimple (coming_at code plan x.own.pending (sight_of k c) x.control) = subst IsSimple (comes_in k x there) was.1 in (
+          plain_gone k was.0,
+          subst IsSimple (sym (ap (coming_by code plan (sight_of k gone)) after))
+              (simple_alike (coming_at code plan x.own.pending (sight_of k c) x.control) (coming_at code plan x.own.pending (sight_of k gone) x.control)
+              (comes_alike ⊥ (Unit {0}) tt plan (sight_of k c) (sight_of k gone) code plain x.own.pending x.control (inl (simple_no_start _ simple))) simple),
+        )
 
-      nobody_moves : (k : ℕ) → slice_get gone.tasks k ≡ None → has_some (moves_of plan code k gone) ≡ true → ⊥
-      nobody_moves k after some =
-          let none : has_some (moves_of plan code k gone) ≡ false =
-          ap (λ o. has_some (turn_moves plan K.barrier (turn_at plan K.barrier o k (seen plan K gone)) k (seen plan K gone)))
-          (seen_at plan code 0 k k gone.tasks (owns gone.tasks) gone.shared (omega arith) ∙ ap (one_seen plan code k (owns gone.tasks) gone.shared) after) in
-          absurd (cc)
+    nobody_moves : (k : ℕ) → slice_get gone.tasks k ≡ None → has_some (moves_of plan code k gone) ≡ true → ⊥
+    nobody_moves k after some =
+        let none : has_some (moves_of plan code k gone) ≡ false =
+        ap (λ o. has_some (turn_moves plan K.barrier (turn_at plan K.barrier o k (seen plan K gone)) k (seen plan K gone)))
+        (seen_at plan code 0 k k gone.tasks (owns gone.tasks) gone.shared (omega arith) ∙ ap (one_seen plan code k (owns gone.tasks) gone.shared) after) in
+        absurd (cc)
 
-      simple_gone : AreSimple plan code gone
-      simple_gone k some = by (same_or_other k n) (slice_get c.tasks k) refl
-        where
-          by : (k ≡ n) ⊎ (k ≡ n → ⊥) → (o : Option (TaskAt Spot)) → slice_get c.tasks k ≡ o → Simple k
-          by (inl is) o there = here_simple k is
-          by (inr other) (Some x) there = other_simple k x other there some
-          by (inr other) None there = absurd (nobody_moves k (changed_other n k (stands_so p) c.tasks other ∙ there) some)
+    simple_gone : AreSimple plan code gone
+    simple_gone k some = by (same_or_other k n) (slice_get c.tasks k) refl
+      where
+        by : (k ≡ n) ⊎ (k ≡ n → ⊥) → (o : Option (TaskAt Spot)) → slice_get c.tasks k ≡ o → Simple k
+        by (inl is) o there = own_simple k is
+        by (inr other) (Some x) there = other_simple k x other there some
+        by (inr other) None there = absurd (nobody_moves k (changed_other n k (stands_so p) c.tasks other ∙ there) some)
 
-      starts_gone : AreIdle c ⊎ BeginsNone plan code c → AreIdle gone ⊎ BeginsNone plan code gone
-      starts_gone (inl idle) = inl idle
-      starts_gone (inr none) = inr (λ k x after runs. by k x after runs (same_or_other k n))
-        where
-          by : (k : ℕ) (x : TaskAt Spot) → slice_get gone.tasks k ≡ Some x → x.own.status ≡ Running → (k ≡ n) ⊎ (k ≡ n → ⊥) → IsNoStart (coming_at code plan x.own.pending (sight_of k gone) x.control)
-          by k x after runs (inl is) =
-              let same : stands_so p t ≡ x = same_Some (stands_so p t) x (sym (here_changed p n t c.tasks at) ∙ ap (slice_get gone.tasks) (sym is) ∙ after) in
-              subst (λ (y : TaskAt Spot). IsNoStart (coming_at code plan y.own.pending (sight_of k gone) y.control)) same
-              (subst (λ z. IsNoStart (coming_at code plan z (sight_of k gone) p.control)) (sym goes.none_there)
-              (simple_no_start _ (plain_simple _ (goes.there (sight_of k gone)))))
-          by k x after runs (inr other) =
-              still_no_start plan code plain (sight_of k c) (sight_of k gone) x.own.pending x.control
-              (none k x (sym (changed_other n k (stands_so p) c.tasks other) ∙ after) runs)
+    starts_gone : AreIdle c ⊎ BeginsNone plan code c → AreIdle gone ⊎ BeginsNone plan code gone
+    starts_gone (inl idle) = inl idle
+    starts_gone (inr none) = inr (λ k x after runs. by k x after runs (same_or_other k n))
+      where
+        by : (k : ℕ) (x : TaskAt Spot) → slice_get gone.tasks k ≡ Some x → x.own.status ≡ Running → (k ≡ n) ⊎ (k ≡ n → ⊥) → IsNoStart (coming_at code plan x.own.pending (sight_of k gone) x.control)
+        by k x after runs (inl is) =
+            let same : stands_so p t ≡ x = same_Some (stands_so p t) x (sym (here_changed p n t c.tasks at) ∙ ap (slice_get gone.tasks) (sym is) ∙ after) in
+            let simple : IsSimple (coming_at code plan p.pending (sight_of n gone) p.control) = subst IsSimple (ap (coming_by code plan (sight_of n gone)) (here_changed p n t c.tasks at)) there_simple in
+            subst (λ (y : TaskAt Spot). IsNoStart (coming_at code plan y.own.pending (sight_of k gone) y.control)) same
+            (subst (λ m. IsNoStart (coming_at code plan p.pending (sight_of m gone) p.control)) (sym is) (simple_no_start _ simple))
+        by k x after runs (inr other) =
+            still_no_start plan code plain (sight_of k c) (sight_of k gone) x.own.pending x.control
+            (none k x (sym (changed_other n k (stands_so p) c.tasks other) ∙ after) runs)
 
-      pub steady_gone : AreSteady plan code gone
-      steady_gone = record { simple = simple_gone; starts = starts_gone steady.starts }
+    pub steady_gone : AreSteady plan code gone
+    steady_gone = record { simple = simple_gone; starts = starts_gone steady.starts }

@@ -1,6 +1,6 @@
 -- What comes next of other tasks stays of the same sort while one of them goes on by itself and hinders none: the first move stays, and
 -- whether there are others.
-use Rattle.std.proofs.Common.{◌≡◌, ◌<◌, ◌+◌, ◌⊎◌, inl, inr, ℕ, zero, suc, List, [], ◌∷◌, Option, Some, None, Bool, true, false, refl, ap, sym, subst, ◌∙◌, slice_get, arith}
+use Rattle.std.proofs.Common.{◌≡◌, ◌<◌, ◌+◌, ◌⊎◌, inl, inr, ℕ, zero, suc, List, [], ◌∷◌, Option, Some, None, true, refl, ap, sym, subst, ◌∙◌, slice_get, slice_index_or, arith}
 use Rattle.std.proofs.lemmas.Option.{same_Some}
 use Rattle.std.specs.Prelude.{IfSome}
 use Rattle.aud_typed.specs.Tree.{Plan}
@@ -13,10 +13,10 @@ use Rattle.aud_meaning.specs.Configuration.{Own, Shared, TaskAt, All}
 use Rattle.aud_meaning.specs.Evaluation.{Sight}
 use Rattle.aud_meaning.specs.Control.{Coming, Seen, simply, ending, selecting, calling, starting, Controls}
 use Rattle.aud_meaning.specs.Statements.{coming_raised}
-use Rattle.aud_meaning.specs.Parts.{owns, changed, queue, sight_in, sight_of, on_shared, on_task}
+use Rattle.aud_meaning.specs.Parts.{nobody, owns, own_of, changed, queue, sight_in, sight_of, on_shared, on_task}
 use Rattle.aud_meaning.specs.Ties.Part.{Part}
 use Rattle.aud_meaning.specs.Tasks.{barrier_of, eligible_from, eligible_if, entries_of}
-use Rattle.aud_meaning.specs.Run.{own_move, seen, seen_from, moves_at, Deferred, at_once, usual, under_way, turn_by, turn_at, shown_place}
+use Rattle.aud_meaning.specs.Run.{Turn, own_move, seen, seen_from, moves_at, turn, turn_at, turn_moves, shown_place}
 use Rattle.aud_code.specs.declared.line.EndLine.{EndLine}
 use Rattle.aud_code.specs.declared.line.Ending.TheVariants.{Declare, DeclareArray, Null, Assign, Put, If, While, Loop, Exit, Raise, RaiseAgain, Block, Return, ReturnValue, OwnCall, Call}
 use Rattle.aud_code.specs.declared.line.Last.{Last}
@@ -29,12 +29,15 @@ use Rattle.aud_code.specs.Flat.{Flat, flat_controls, coming_at, coming_last, han
 use Rattle.aud_code.specs.Flat as flat
 use Rattle.aud_code.specs.View.{plain_found, plain_last, EndsPlainly}
 use Rattle.aud_state.specs.Fast.{stands_so}
+use Rattle.aud_state.specs.Reads.{IsPlain}
 use Rattle.aud_tasks.specs.Choices.{IsNoStart}
 use Rattle.aud_tasks.specs.Turning.{turn_in}
 use Rattle.aud_tasks.specs.Running.{is_acting, AreIdle, BeginsAlone, HindersNone}
 use Rattle.aud_tasks.proofs.Running.Moves as moves
-use Rattle.aud_tasks.proofs.Running.Moves.{AreAlike, alike_self, AlikeTasks, GoesSimply, left_in, stays, differs, moves_there, acting_there}
-use Rattle.aud_sequential.specs.Fast.{ComesPlainly}
+use Rattle.aud_tasks.specs.Moving.{moves_of}
+use Rattle.aud_tasks.proofs.StepLaws.Turning.{turn_plain}
+use Rattle.aud_tasks.proofs.ViewLaws.Seen.{one_seen, seen_at}
+use Rattle.aud_tasks.proofs.Running.Moves.{AreAlike, alike_self, AlikeTasks, elsewhere, left_in, stays, differs, moves_there}
 
 -- whether the step at a place leaves a construct is not a question of what is seen
 module _ (Free Other : Type 0) (other : Other) (plan : Plan) (s r : Sight) where
@@ -88,16 +91,6 @@ module _ (Free Other : Type 0) (other : Other) (plan : Plan) (s r : Sight) where
       subst (λ (l : flat.EndLine). IsOpen (coming_last plan l.last s x) → AreAlike Free Other (coming_last plan l.last s x) (coming_last plan l.last r y)) (plain t.place).1 (found_alike t.place (plain t.place).0 x y) h
   comes_alike code plain (Some p) t h = alike_self Free Other (coming_raised (is_there (handler_at code p.exception t)))
 
-plainly_simply : (status : Status) (x : Coming) → status ≡ Running → ComesPlainly x → GoesSimply status x
-plainly_simply Running (simply w) runs h = tt
-plainly_simply Running x runs h = absurd h
-plainly_simply status x runs h = absurd cc
-
-plainly_alike : (Free Other : Type 0) (x y : Coming) → ComesPlainly x → ComesPlainly y → AreAlike Free Other x y
-plainly_alike Free Other (simply w) (simply v) h g = tt
-plainly_alike Free Other (simply w) y h g = absurd g
-plainly_alike Free Other x y h g = absurd h
-
 no_start_alike : (Free Other : Type 0) (x y : Coming) → AreAlike Free Other x y → IsNoStart x → IsNoStart y
 no_start_alike Free Other (simply w) (simply v) h none = tt
 no_start_alike Free Other ending ending h none = tt
@@ -113,6 +106,19 @@ still_no_start plan code plain s r pending t none =
     (comes_alike ⊥ (Unit {0}) tt plan s r code plain pending t (inl none)) none
 
 -- Parts of tasks of which one stands elsewhere.
+
+-- a task stays plain where one stands elsewhere
+pub plain_there : (p : Part Spot) (m k : ℕ) (ts : List (TaskAt Spot)) → IsPlain (slice_index_or (owns ts) k nobody) → IsPlain (slice_index_or (owns (changed m (stands_so p) ts)) k nobody)
+plain_there p m k [] h = h
+plain_there p zero zero (t ∷ ts) h = record { runs = h.runs; normal = h.normal; free = h.free }
+plain_there p zero (suc k) (t ∷ ts) h = h
+plain_there p (suc m) zero (t ∷ ts) h = h
+plain_there p (suc m) (suc k) (t ∷ ts) h = plain_there p m k ts h
+
+pub here_changed : (p : Part Spot) (n : ℕ) (t : TaskAt Spot) (ts : List (TaskAt Spot)) → slice_get ts n ≡ Some t → slice_get (changed n (stands_so p) ts) n ≡ Some (stands_so p t)
+here_changed p n t [] at = absurd cc
+here_changed p zero t (x ∷ ts) at = ap (λ (y : TaskAt Spot). Some (stands_so p y)) (same_Some x t at)
+here_changed p (suc n) t (x ∷ ts) at = here_changed p n t ts at
 
 -- it has gone on, one step later, and no output was cut
 abbrev pub gone_on : ℕ → Part Spot → All Spot → All Spot
@@ -133,17 +139,16 @@ module _ (plan : Plan) (code : Flat) where
   abbrev K : Controls Spot
   K = flat_controls plan code
 
-  pub self_seen : (i : ℕ) (ts : List (TaskAt Spot)) (os : List Own) (shared : Shared) → AlikeTasks (λ s. ⊥) (Unit {0}) (λ k. ⊥) (λ k. ⊥) i (seen_from plan K i ts os shared) (seen_from plan K i ts os shared)
-  self_seen i [] os shared = tt
-  self_seen i (t ∷ ts) os shared = (
-    record {
+  pub self_seen : (d e : All Seen) (i : ℕ) (ts : List (TaskAt Spot)) (os : List Own) (shared : Shared) → AlikeTasks plan K.barrier d e (λ s. ⊥) (Unit {0}) (λ k. ⊥) (λ k. ⊥) i (seen_from plan K i ts os shared) (seen_from plan K i ts os shared)
+  self_seen d e i [] os shared = tt
+  self_seen d e i (t ∷ ts) os shared = (
+    inl (record {
+      unmoved = λ none. none;
       own = refl;
-      opened = inl refl;
-      moved = λ none. absurd none;
       coming = alike_self ⊥ ⊥ (coming_at code plan t.own.pending (sight_in i os shared) t.control);
       serving = stays (served_all t.own.serving);
-    },
-    self_seen (suc i) ts os shared,
+    }),
+    self_seen d e (suc i) ts os shared,
   )
 
   pub unchosen_from : (c : All Seen) (choices : List ℕ) (i : ℕ) (es : List ℕ) (object : ℕ) → eligible_from plan K.barrier i es object c ≡ eligible_from plan K.barrier i es object (record c { choices = choices })
@@ -158,75 +163,44 @@ module _ (plan : Plan) (code : Flat) where
   pub moves_unchosen : (c : All Spot) (choices : List ℕ) → moves_at plan K c ≡ moves_at plan K (record c { choices = choices })
   moves_unchosen c choices =
       let d = seen plan K c in
-      moves_there plan K.barrier (λ s. ⊥) (Unit {0}) (λ k. ⊥) d (λ none. absurd none) d.tasks (left_in c.shared) choices c.steps (λ all object. unchosen_from d choices 1 (entries_of plan K.barrier object d) object) (self_seen 0 c.tasks (owns c.tasks) c.shared)
+      moves_there plan K.barrier (λ s. ⊥) (Unit {0}) (λ k. ⊥) d (λ none. absurd none) d.tasks (left_in c.shared) choices c.steps (λ all object. unchosen_from d choices 1 (entries_of plan K.barrier object d) object) (self_seen d (elsewhere d.tasks (left_in c.shared) choices c.steps d) 0 c.tasks (owns c.tasks) c.shared)
 
-  -- It runs and services no object where its own statements go on.
-  abbrev ActsFreely : Option Serving → Status → Type 0
-  ActsFreely serving status = IfSome serving (λ s. ⊥) × (status ≡ Running)
+  -- A task that has moved.
 
-  module _ (n : ℕ) (d : All Seen) (t : TaskAt Seen) where
-    abbrev Free : Type 0
-    Free = ActsFreely t.own.serving t.own.status
+  seen_here : (n : ℕ) (c : All Spot) (t : TaskAt Spot) → slice_get c.tasks n ≡ Some t → slice_get (seen plan K c).tasks n ≡ Some (seen_task n t (owns c.tasks) c.shared)
+  seen_here n c t at = seen_at plan code 0 n n c.tasks (owns c.tasks) c.shared (omega arith) ∙ ap (one_seen plan code n (owns c.tasks) c.shared) at
 
-    usual_acts : (serving : Option Serving) (status : Status) → is_acting (usual plan K.barrier serving status n t d) ≡ true → ActsFreely serving status
-    usual_acts (Some s) status acts = absurd cc
-    usual_acts None Running acts = (tt, refl)
-    usual_acts None Created acts = absurd cc
-    usual_acts None Activating acts = absurd cc
-    usual_acts None Accepting acts = absurd cc
-    usual_acts None Delaying acts = absurd cc
-    usual_acts None Calling acts = absurd cc
-    usual_acts None Completed acts = absurd cc
-    usual_acts None Terminated acts = absurd cc
+  abbrev turn_here : ℕ → All Spot → TaskAt Spot → Turn
+  turn_here n c t = turn plan K.barrier n (seen_task n t (owns c.tasks) c.shared) (seen plan K c)
 
-    once_acts : (withdraw : Option ℕ) → is_acting (at_once plan K.barrier withdraw) ≡ true → Free
-    once_acts None acts = absurd cc
-    once_acts (Some object) acts = absurd cc
+  turn_so : (n : ℕ) (c : All Spot) (t : TaskAt Spot) → slice_get c.tasks n ≡ Some t → turn_in plan code n c ≡ turn_here n c t
+  turn_so n c t at = ap (λ o. turn_at plan K.barrier o n (seen plan K c)) (seen_here n c t at)
 
-    under_acts : (abnormal : Bool) → is_acting (under_way plan K.barrier abnormal n t d) ≡ true → Free
-    under_acts false = usual_acts t.own.serving t.own.status
-    under_acts true = by (Deferred plan K.barrier n t d) refl
-      where
-        by : (b : Bool) → Deferred plan K.barrier n t d ≡ b → is_acting (under_way plan K.barrier true n t d) ≡ true → Free
-        by true is = rw is (usual_acts t.own.serving t.own.status)
-        by false is = rw is (once_acts t.own.withdraw)
+  acts_so : (n : ℕ) (c : All Spot) (t : TaskAt Spot) → slice_get c.tasks n ≡ Some t → IsPlain (own_of n c) → is_acting (turn_here n c t) ≡ true
+  acts_so n c t at is = ap is_acting (sym (turn_so n c t at)) ∙ ap is_acting (turn_plain plan code n c is)
 
-    turn_acts : (status : Status) → is_acting (turn_by plan K.barrier status n t d) ≡ true → Free
-    turn_acts Created acts = absurd cc
-    turn_acts Running acts = under_acts t.own.abnormal acts
-    turn_acts Activating acts = under_acts t.own.abnormal acts
-    turn_acts Accepting acts = under_acts t.own.abnormal acts
-    turn_acts Delaying acts = under_acts t.own.abnormal acts
-    turn_acts Calling acts = under_acts t.own.abnormal acts
-    turn_acts Completed acts = absurd cc
-    turn_acts Terminated acts = absurd cc
+  moves_so : (n : ℕ) (c : All Spot) (t : TaskAt Spot) → slice_get c.tasks n ≡ Some t → turn_moves plan K.barrier (turn_here n c t) n (seen plan K c) ≡ moves_of plan code n c
+  moves_so n c t at = ap (λ u. turn_moves plan K.barrier u n (seen plan K c)) (sym (turn_so n c t at))
 
-  acts_from : (n i j : ℕ) (ts : List (TaskAt Spot)) (os : List Own) (shared : Shared) (d : All Seen) (t : TaskAt Spot) → slice_get ts j ≡ Some t → is_acting (turn_at plan K.barrier (slice_get (seen_from plan K i ts os shared) j) n d) ≡ true → ActsFreely t.own.serving t.own.status
-  acts_from n i j [] os shared d t at acts = absurd cc
-  acts_from n i zero (x ∷ ts) os shared d t at acts =
-      subst (λ (y : TaskAt Spot). ActsFreely y.own.serving y.own.status) (same_Some x t at)
-      (turn_acts n d (seen_task i x os shared) x.own.status acts)
-  acts_from n i (suc j) (x ∷ ts) os shared d t at acts = acts_from n (suc i) j ts os shared d t at acts
-
-  -- it goes on from one simple step to the next, where it stands so then
-  pub record GoesThere (t : TaskAt Spot) (p : Part Spot) : Type 0 where
-    pub none : t.own.pending ≡ None
-    pub services : IfSome t.own.serving (λ s. ⊥)
-    pub runs : t.own.status ≡ Running
-    pub here : (s : Sight) → ComesPlainly (coming_at code plan None s t.control)
-    pub none_there : p.pending ≡ None
-    pub there : (s : Sight) → ComesPlainly (coming_at code plan None s p.control)
-
-  pub acts_freely : (n : ℕ) (c : All Spot) (t : TaskAt Spot) → slice_get c.tasks n ≡ Some t → is_acting (turn_in plan code n c) ≡ true → ActsFreely t.own.serving t.own.status
-  acts_freely n c t at acts = acts_from n 0 n c.tasks (owns c.tasks) c.shared (seen plan K c) t at acts
+  -- with the same moves, where it has gone on
+  pub moved_by : (n : ℕ) (p : Part Spot) (c : All Spot) (t : TaskAt Spot) → slice_get c.tasks n ≡ Some t → IsPlain (own_of n c) → IsPlain (own_of n (gone_on n p c)) → moves_of plan code n c ≡ own_move n ∷ [] → moves_of plan code n (gone_on n p c) ≡ own_move n ∷ [] →
+      moves.MovedTask plan K.barrier (seen plan K c) (seen plan K (gone_on n p c)) n (seen_task n t (owns c.tasks) c.shared) (seen_task n (stands_so p t) (owns (gone_on n p c).tasks) (gone_on n p c).shared)
+  moved_by n p c t at here there only_here only_there =
+      let gone = gone_on n p c in
+      let after : slice_get gone.tasks n ≡ Some (stands_so p t) = here_changed p n t c.tasks at in
+      record {
+        own = refl;
+        moves = moves_so n c t at ∙ only_here ∙ sym only_there ∙ sym (moves_so n gone (stands_so p t) after);
+        acts = acts_so n c t at here ∙ sym (acts_so n gone (stands_so p t) after there);
+      }
 
   -- objects are idle where a task that is to begin an action runs
   abbrev IfRunning : (Idle : Type 0) → Status → Type 0
   IfRunning Idle status = status ≡ Running → Idle
 
-  module _ (Idle : Type 0) (plain : EndsPlainly code) (os rs : List Own) (sh th : Shared) (of : ℕ) where
+  module _ (Idle : Type 0) (plain : EndsPlainly code) (d e : All Seen) (os rs : List Own) (sh th : Shared) (of : ℕ) where
     abbrev Alike : ℕ → List (TaskAt Seen) → List (TaskAt Seen) → Type 0
-    Alike i ts us = AlikeTasks (IfRunning Idle) ⊥ (λ k. ¬ (k ≡ of)) (λ k. k ≡ of) i ts us
+    Alike i ts us = AlikeTasks plan K.barrier d e (IfRunning Idle) ⊥ (λ k. ¬ (k ≡ of)) (λ k. k ≡ of) i ts us
 
     -- another task is not to begin an action, or all objects are idle
     abbrev IsOpenTo : ℕ → TaskAt Spot → Type 0
@@ -242,9 +216,8 @@ module _ (plan : Plan) (code : Flat) where
 
     other_seen : (i : ℕ) (t : TaskAt Spot) → ¬ (i ≡ of) → IsOpenTo i t → moves.AlikeTask (IfRunning Idle) ⊥ (¬ (i ≡ of)) (i ≡ of) (seen_task i t os sh) (seen_task i t rs th)
     other_seen i t other opens = record {
+      unmoved = other;
       own = refl;
-      opened = inl refl;
-      moved = λ is. absurd (other is);
       coming = comes_alike (IfRunning Idle t.own.status) (¬ (i ≡ of)) other plan (sight_in i os sh) (sight_in i rs th) code plain t.own.pending t.control (opens other);
       serving = differs other;
     }
@@ -252,41 +225,26 @@ module _ (plan : Plan) (code : Flat) where
     -- those behind it
     others_seen : (i : ℕ) (ts : List (TaskAt Spot)) → of < i → AreOpen i ts → Alike i (seen_from plan K i ts os sh) (seen_from plan K i ts rs th)
     others_seen i [] past opens = tt
-    others_seen i (t ∷ ts) past opens = (other_seen i t (λ is. omega (arith, is, past)) opens.0, others_seen (suc i) ts (omega (arith, past)) opens.1)
+    others_seen i (t ∷ ts) past opens = (inl (other_seen i t (λ is. omega (arith, is, past)) opens.0), others_seen (suc i) ts (omega (arith, past)) opens.1)
 
-    pub goes_alike : (Free Other : Type 0) (i : ℕ) (t : TaskAt Spot) (p : Part Spot) → GoesThere t p → AreAlike Free Other (coming_at code plan t.own.pending (sight_in i os sh) t.control) (coming_at code plan p.pending (sight_in i rs th) p.control)
-    goes_alike Free Other i t p goes =
-        subst (λ x. AreAlike Free Other (coming_at code plan x (sight_in i os sh) t.control) (coming_at code plan p.pending (sight_in i rs th) p.control)) (sym goes.none)
-        (subst (λ x. AreAlike Free Other (coming_at code plan None (sight_in i os sh) t.control) (coming_at code plan x (sight_in i rs th) p.control)) (sym goes.none_there)
-        (plainly_alike Free Other (coming_at code plan None (sight_in i os sh) t.control) (coming_at code plan None (sight_in i rs th) p.control) (goes.here (sight_in i os sh)) (goes.there (sight_in i rs th))))
+    -- it has moved, with the same moves
+    abbrev pub MovedThere : ℕ → TaskAt Spot → Part Spot → Type 0
+    MovedThere i t p = moves.MovedTask plan K.barrier d e i (seen_task i t os sh) (seen_task i (stands_so p t) rs th)
 
-    pub goes_simply : (t : TaskAt Spot) (p : Part Spot) (s : Sight) → GoesThere t p → GoesSimply t.own.status (coming_at code plan t.own.pending s t.control)
-    goes_simply t p s goes =
-        subst (λ x. GoesSimply t.own.status (coming_at code plan x s t.control)) (sym goes.none)
-        (plainly_simply t.own.status (coming_at code plan None s t.control) goes.runs (goes.here s))
-
-    own_seen : (i : ℕ) (t : TaskAt Spot) (p : Part Spot) → i ≡ of → GoesThere t p → moves.AlikeTask (IfRunning Idle) ⊥ (¬ (i ≡ of)) (i ≡ of) (seen_task i t os sh) (seen_task i (stands_so p t) rs th)
-    own_seen i t p is goes = record {
-      own = refl;
-      opened = inr is;
-      moved = λ it. goes_simply t p (sight_in i os sh) goes;
-      coming = goes_alike (IfRunning Idle t.own.status) (¬ (i ≡ of)) i t p goes;
-      serving = stays goes.services;
-    }
-
-    all_seen : (n i : ℕ) (ts : List (TaskAt Spot)) (t : TaskAt Spot) (p : Part Spot) → i + n ≡ of → slice_get ts n ≡ Some t → GoesThere t p → AreOpen i ts → Alike i (seen_from plan K i ts os sh) (seen_from plan K i (changed n (stands_so p) ts) rs th)
-    all_seen n i [] t p at is goes opens = tt
-    all_seen zero i (x ∷ ts) t p at is goes opens = (
-      own_seen i x p (omega (arith, at)) (subst (λ (y : TaskAt Spot). GoesThere y p) (sym (same_Some x t is)) goes),
-      others_seen (suc i) ts (omega (arith, at)) opens.1,
-    )
-    all_seen (suc n) i (x ∷ ts) t p at is goes opens = (
-      other_seen i x (λ here. omega (arith, here, at)) opens.0,
-      all_seen n (suc i) ts t p (omega (arith, at)) is goes opens.1,
+    all_seen : (n i : ℕ) (ts : List (TaskAt Spot)) (t : TaskAt Spot) (p : Part Spot) → i + n ≡ of → slice_get ts n ≡ Some t → MovedThere of t p → AreOpen i ts → Alike i (seen_from plan K i ts os sh) (seen_from plan K i (changed n (stands_so p) ts) rs th)
+    all_seen n i [] t p at is moved opens = tt
+    all_seen zero i (x ∷ ts) t p at is moved opens =
+        let here : i ≡ of = omega (arith, at) in (
+          inr (here, subst (λ k. MovedThere k x p) (sym here) (subst (λ (y : TaskAt Spot). MovedThere of y p) (sym (same_Some x t is)) moved)),
+          others_seen (suc i) ts (omega (arith, at)) opens.1,
+        )
+    all_seen (suc n) i (x ∷ ts) t p at is moved opens = (
+      inl (other_seen i x (λ here. omega (arith, here, at)) opens.0),
+      all_seen n (suc i) ts t p (omega (arith, at)) is moved opens.1,
     )
 
   -- its move is still the first one where it has gone on so, and alone where it was alone
-  module _ (plain : EndsPlainly code) (c : All Spot) (n : ℕ) (hinders : HindersNone plan code n c) (t : TaskAt Spot) (p : Part Spot) (at : slice_get c.tasks n ≡ Some t) (goes : GoesThere t p) where
+  module _ (plain : EndsPlainly code) (c : All Spot) (n : ℕ) (hinders : HindersNone plan code n c) (t : TaskAt Spot) (p : Part Spot) (at : slice_get c.tasks n ≡ Some t) (own_plain : IsPlain (own_of n c)) (only_here : moves_of plan code n c ≡ own_move n ∷ []) (only_there : moves_of plan code n (gone_on n p c) ≡ own_move n ∷ []) where
     abbrev gone : All Spot
     gone = gone_on n p c
 
@@ -302,17 +260,20 @@ module _ (plan : Plan) (code : Flat) where
     is_open (inr alone) k x there other Completed is = inr (λ runs. absurd cc)
     is_open (inr alone) k x there other Terminated is = inr (λ runs. absurd cc)
 
-    alike_gone : AlikeTasks (IfRunning (AreIdle c)) ⊥ (λ k. ¬ (k ≡ n)) (λ k. k ≡ n) 0 (seen plan K c).tasks (seen plan K gone).tasks
+    pub plain_gone : IsPlain (own_of n gone)
+    plain_gone = plain_there p n n c.tasks own_plain
+
+    moved : MovedThere (AreIdle c) plain (seen plan K c) (seen plan K gone) (owns c.tasks) (owns gone.tasks) c.shared gone.shared n n t p
+    moved = moved_by n p c t at own_plain plain_gone only_here only_there
+
+    alike_gone : AlikeTasks plan K.barrier (seen plan K c) (seen plan K gone) (IfRunning (AreIdle c)) ⊥ (λ k. ¬ (k ≡ n)) (λ k. k ≡ n) 0 (seen plan K c).tasks (seen plan K gone).tasks
     alike_gone =
-        all_seen (AreIdle c) plain (owns c.tasks) (owns gone.tasks) c.shared gone.shared n n 0 c.tasks t p (omega arith) at goes
-        (open_each (AreIdle c) plain (owns c.tasks) (owns gone.tasks) c.shared gone.shared n 0 c.tasks (λ k j x is there other.
+        all_seen (AreIdle c) plain (seen plan K c) (seen plan K gone) (owns c.tasks) (owns gone.tasks) c.shared gone.shared n n 0 c.tasks t p (omega arith) at moved
+        (open_each (AreIdle c) plain (seen plan K c) (seen plan K gone) (owns c.tasks) (owns gone.tasks) c.shared gone.shared n 0 c.tasks (λ k j x is there other.
         is_open hinders k x (let same : k ≡ j = omega (arith, is) in ap (slice_get c.tasks) same ∙ there) other x.own.status refl))
 
     pub first_still : (others : List Move) → moves_at plan K c ≡ own_move n ∷ others → (more : List Move) × (moves_at plan K gone ≡ own_move n ∷ more) × (others ≡ [] → more ≡ [])
     first_still others first = moves.first_still plan K.barrier (IfRunning (AreIdle c)) ⊥ (λ k. k ≡ n) n (seen plan K c) (λ idle. idle refl) (seen plan K gone).tasks (left_in gone.shared) c.choices (suc c.steps) (λ none. absurd none) alike_gone others first
-
-    pub acts_still : is_acting (turn_in plan code n c) ≡ is_acting (turn_in plan code n gone)
-    acts_still = acting_there plan K.barrier (IfRunning (AreIdle c)) ⊥ (λ k. k ≡ n) (λ k. ¬ (k ≡ n)) (seen plan K c) (λ idle. idle refl) (seen plan K gone).tasks (left_in gone.shared) c.choices (suc c.steps) (λ none. absurd none) alike_gone n
 
     -- and it hinders none still
     still_alone : BeginsAlone plan code n c → BeginsAlone plan code n gone

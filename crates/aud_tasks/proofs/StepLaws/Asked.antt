@@ -1,5 +1,5 @@
 -- What endings ask for.
-use Rattle.std.proofs.Common.{◌≡◌, ℕ, ℤ, List, [], ◌∷◌, length, Bool, true, false, Option, None, refl, ap, sym, ◌∙◌, subst}
+use Rattle.std.proofs.Common.{◌≡◌, ℕ, Bool, true, false, Option, refl, ap, sym, ◌∙◌, subst}
 use Rattle.std.specs.Prelude.{OnOk, Result, not, nat_le, if◌then◌else◌}
 use Rattle.aud_text.specs.declared.limits.Limits.{Limits}
 use Rattle.aud_text.specs.declared.limits.TheConstants.{ELEMENTS}
@@ -8,11 +8,10 @@ use Rattle.aud_text.specs.declared.raise.Raise.{Raise}
 use Rattle.aud_text.specs.declared.raise.Raise.TheVariants.{Storage}
 use Rattle.aud_typed.specs.Tree.{Plan}
 use Rattle.aud_meaning.specs.Configuration.{All}
-use Rattle.aud_meaning.specs.Control.{Asked, Scene, goes_on, goes_out, raises_here, raises_in_part}
+use Rattle.aud_meaning.specs.Control.{Scene, raises_here, raises_in_part}
 use Rattle.aud_meaning.specs.Evaluation.{Sight}
 use Rattle.aud_meaning.specs.Step.{done}
 use Rattle.aud_meaning.specs.Tasks as effect
-use Rattle.aud_meaning.specs.Why.Alone.{IsAlone}
 use Rattle.aud_code.specs.Control.{going}
 use Rattle.aud_code.specs.declared.line.Ending.{Ending}
 use Rattle.aud_code.specs.declared.line.Ending.TheVariants.{Declare, DeclareArray, Null, Assign, Put, If, While, Loop, Exit, RaiseAgain, Block, Return, ReturnValue, OwnCall, Call}
@@ -20,11 +19,10 @@ use Rattle.aud_code.specs.declared.line.Ending.TheVariants as ending
 use Rattle.aud_code.specs.declared.line.Last.{Last}
 use Rattle.aud_code.specs.declared.line.Among.TheVariants as among
 use Rattle.aud_code.specs.declared.line.Last.TheVariants.{Does, Concerns, Continues, Guards, Ends, Leaves}
-use Rattle.aud_code.specs.Eval.{with_one, with_two}
 use Rattle.aud_code.specs.Flat.{Flat, asked_last}
 use Rattle.aud_code.specs.Instruction.{Ended, Operands, Raised, Reached}
 use Rattle.aud_code.specs.Places.{Spot, loops_of}
-use Rattle.aud_code.specs.Sound.{Counts, Takes, counts_of, LastFine}
+use Rattle.aud_code.specs.Sound.{Counts, LastFine}
 use Rattle.aud_code.specs.View.{exit_of, plain_last}
 use Rattle.aud_sequential.specs.Steps.{IsOfOne}
 use Rattle.aud_state.specs.Fast.{scene}

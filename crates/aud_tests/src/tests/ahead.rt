@@ -13,7 +13,7 @@ use std::alloc::{AllocError, Global};
 use std::process::Abort;
 use std::test::Fail;
 
-// A program. After the first steps, so many, main takes `ahead` of its steps so.
+// A program. Behind its first `before` steps main takes `ahead` steps without a look at the moves.
 struct Shape {
     what: &'static str,
     text: &'static [u8],
@@ -21,7 +21,7 @@ struct Shape {
     ahead: u32,
 }
 
-const SHAPES: [Shape; 9] = [
+const SHAPES: [Shape; 10] = [
     Shape {
         what: "a call, and the procedure's statements, up to its end",
         text: b"procedure M is X : Integer := 0; procedure P (N : Integer) is begin X := N; end P; begin P (1); P (2); end M;\n",
@@ -71,12 +71,22 @@ const SHAPES: [Shape; 9] = [
         ahead: 2,
     },
     Shape {
+        what: "an array with too many elements",
+        text: b"procedure M is A : array (1 .. 1025) of Natural; begin A (1) := 2; end M;\n",
+        before: 0,
+        ahead: 0,
+    },
+    Shape {
         what: "up to a delay",
         text: b"procedure M is begin null; delay 1.0; null; end M;\n",
         before: 0,
         ahead: 1,
     },
 ];
+
+// Loops whose frames are due to be given back before they end.
+const MANY_FRAMES: &[u8] =
+    b"procedure M is begin for I in 1 .. 9999 loop for J in 1 .. 1 loop null; end loop; end loop; end M;\n";
 
 fn goes_ahead(
     rt: &impl Abort,
@@ -93,19 +103,42 @@ fn goes_ahead(
     };
     let mut operands = Operands::new(alloc);
     assert!(rt; state.steps() <= 1_000 && shape.before <= 1_000);
-    let _ = run(&mut state, alloc, compiled, &mut operands, shape.before)?;
+    run(&mut state, alloc, compiled, &mut operands, shape.before)?;
     assert!(rt; state.steps() <= 1_000 && 0 < state.len());
     let taken = state.run_ahead(code, &program.units, 0, &mut operands, 1_000)?;
     assert!(rt; taken.steps == shape.ahead, "{}", shape.what);
     Ok(())
 }
 
+fn stops_for_frames(
+    rt: &impl Abort,
+    alloc: Global,
+    program: &Program,
+    code: &SoundCode,
+) -> Result<(), AllocError> {
+    let mut state = opened(alloc, code, program, STANDARD)?;
+    let mut operands = Operands::new(alloc);
+    assert!(rt; state.steps() == 0 && 0 < state.len());
+    let taken = state.run_ahead(code, &program.units, 0, &mut operands, 100_000)?;
+    assert!(rt; 1_000 < taken.steps && taken.steps < 10_000);
+    assert!(rt; state.are_frames_due());
+    Ok(())
+}
+
 #[test]
-fn takes_steps_of_every_shape_ahead(rt: HostRuntime) -> Result<(), Fail> {
+fn takes_steps_ahead(rt: HostRuntime) -> Result<(), Fail> {
     for shape in &SHAPES {
         let program = loaded(rt.alloc(), shape.text)?;
         let code = generate(rt.alloc(), &program)?;
         goes_ahead(&rt, rt.alloc(), program.program(), &code, shape)?;
     }
+    Ok(())
+}
+
+#[test]
+fn stops_where_frames_are_due(rt: HostRuntime) -> Result<(), Fail> {
+    let program = loaded(rt.alloc(), MANY_FRAMES)?;
+    let code = generate(rt.alloc(), &program)?;
+    stops_for_frames(&rt, rt.alloc(), program.program(), &code)?;
     Ok(())
 }

@@ -24,10 +24,15 @@ const FIRST: u32 = 600;
 // Steps by choices that are asked for then.
 const MORE: u32 = 50;
 
-const SHAPES: [Shape; 5] = [
+const SHAPES: [Shape; 6] = [
     Shape {
         what: "two tasks",
         text: b"procedure M is task type L; task body L is X : Integer := 0; begin while X < 9 loop X := X + 1; X := X - 1; end loop; end L; A : array (1 .. 2) of L; begin null; end M;\n",
+        steps: MORE,
+    },
+    Shape {
+        what: "two tasks that put out texts",
+        text: b"procedure M is task type L; task body L is begin loop Put (\"a\"); end loop; end L; A : array (1 .. 2) of L; begin null; end M;\n",
         steps: MORE,
     },
     Shape {
