@@ -226,7 +226,6 @@ pub enum Answer {
     RefusedAt(Refusal, Pos),
 }
 
-// One call wherever it is dropped.
 impl Drop for Answer {
     fn drop(self) {
         match self {

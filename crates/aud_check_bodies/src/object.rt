@@ -70,13 +70,13 @@ fn add_object_part(of: Of, ident: &Ident, kind: PartKind, around: &mut Region) -
         is_private: of.is_private,
         kind,
     };
-    let found = ObjectPart {
+    let declared = ObjectPart {
         object: of.object,
         name,
         at: ident.at,
         part,
     };
-    add_last(&mut around.parts, found)
+    add_last(&mut around.parts, declared)
 }
 
 // Declares an operation or entry.

@@ -36,7 +36,6 @@ pub struct AwaitedObject {
     pub at: Pos,
 }
 
-// One call wherever it is dropped.
 impl Drop for AwaitedObject {
     fn drop(self) {
         let AwaitedObject {

@@ -192,7 +192,6 @@ pub struct Region {
     pub own: Option<Variable>,
 }
 
-// One call wherever it is dropped.
 impl Drop for Region {
     fn drop(self) {
         let Region {
@@ -363,7 +362,6 @@ pub struct Scope<'a> {
     hidden: Option<Hidden<'a>>,
 }
 
-// One call wherever it is dropped.
 impl<'a> Drop for Scope<'a> {
     fn drop(self) {
         let Scope {

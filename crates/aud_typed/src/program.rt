@@ -1,5 +1,5 @@
 // Typed programs. Operators and statements that follow one another are lists, so that a program is as deep in memory as its
-// text is nested, however long it is.
+// text is nested, however long it is. What is not taken apart elsewhere has a drop of its own, which is proved once.
 
 ghost use Rattle.std.specs.Prelude.{◌≡◌, IfOk};
 ghost use Rattle.aud_typed.specs.Ties.View.{milliseconds_in, plain_tasks};
@@ -108,8 +108,6 @@ pub enum TaskName {
     Element(ArrayAt, IntegerExpression),
 }
 
-// What a program is made of has drops of its own, each one call wherever it is dropped; a derived one is proved again in each
-// crate that drops it. What is taken apart elsewhere has none.
 impl Drop for TaskName {
     fn drop(self) {
         match self {
