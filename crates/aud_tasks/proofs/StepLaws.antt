@@ -2,5 +2,6 @@ pub mod Asked
 pub mod Entering
 pub mod Going
 pub mod Leaving
+pub mod LeftAlone
 pub mod Stepping
 pub mod Turning
