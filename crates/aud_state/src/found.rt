@@ -66,6 +66,13 @@ impl State {
         !holds(&self.tasks, master)
     }
 
+    /// Whether a task depends on a master and isn't terminated (RM 9.3).
+    pub fn has_dependents(&self, master: usize) -> bool
+        ensures { result ≡ any (λ t. depends master t.own) self.now.tasks }
+    {
+        depend(&self.tasks, master)
+    }
+
     /// Whether a task waits for the activation of another one.
     pub fn awaits(&self, task: usize) -> bool
         ensures { (go : Orders Spot) → (plan : Plan) → (barrier : ℕ → Sight → Result Bool RaiseOf) →
@@ -237,6 +244,18 @@ fn created_among(alloc: Global, tasks: &[Task], parts: &[usize]) -> Result<Vec<u
         }
     }
     Ok(found)
+}
+
+// Whether one of these tasks depends on a master.
+fn depend(tasks: &[Task], master: usize) -> bool
+    ensures { result ≡ any (λ t. depends master t.own) (map plain_task tasks.now) }
+{
+    for n in (0..tasks.len()).rev() {
+        if tasks[n].depends_on(master) {
+            return true;
+        }
+    }
+    false
 }
 
 // Whether one of these tasks keeps a master from being left.

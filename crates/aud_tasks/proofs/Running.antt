@@ -6,3 +6,4 @@ pub mod Steps
 pub mod Still
 pub mod Taking
 pub mod Whose
+pub mod Leaving

@@ -5,11 +5,16 @@ use Rattle.aud_typed.specs.Tree.{Plan}
 use Rattle.aud_meaning.specs.Configuration.{TaskAt, All}
 use Rattle.aud_meaning.specs.declared.state.Move.{Move}
 use Rattle.aud_meaning.specs.declared.state.Status.TheVariants.{Running}
-use Rattle.aud_meaning.specs.Parts.{is_idle, object_of, own_of, sight_of}
-use Rattle.aud_meaning.specs.Run.{Turn, acting, own_move, moves_at, run_with, state_at, step_with, take_one}
+use Rattle.aud_meaning.specs.Control.{Scene, ending, ends}
+use Rattle.aud_meaning.specs.Evaluation.{Sight}
+use Rattle.aud_meaning.specs.Parts.{any, depends, is_idle, object_of, own_of, sight_of}
+use Rattle.aud_meaning.specs.Run.{Turn, acting, construct_left, master_left_by, own_move, moves_at, run_with, state_at, step_with, take_one}
 use Rattle.aud_meaning.specs.Why.Limits.{IsWithin}
 use Rattle.aud_code.specs.Places.{Spot}
-use Rattle.aud_code.specs.Flat.{Flat, coming_at, flat_controls}
+use Rattle.aud_code.specs.declared.line.Last.{Last}
+use Rattle.aud_code.specs.declared.line.Last.TheVariants.{Ends, Leaves}
+use Rattle.aud_code.specs.Flat.{Flat, asked_at, coming_at, flat_controls}
+use Rattle.aud_code.specs.View.{EndsPlainly}
 use Rattle.aud_expr.specs.Size.{size}
 use Rattle.aud_over.specs.Over.{forgotten}
 use Rattle.aud_tasks.specs.declared.run.Ran.{Ran}
@@ -58,7 +63,7 @@ pub record RunsFirst (plan : Plan) (code : Flat) (limits : Limits) (n : ℕ) (ol
   pub leads : RunsOn plan code limits taken.steps old new
   pub steps : taken.steps + old.steps ≡ new.steps
   pub within : taken.steps ≤ n
-  pub few : taken.ticks ≤ taken.steps * size code
+  pub few : taken.ticks ≤ taken.steps * most_ticks plan code
 
 -- at most n steps that a run does next, by choices or not
 pub record RunsChosen (plan : Plan) (code : Flat) (limits : Limits) (n : ℕ) (old new : All Spot) (taken : Taken) : Type 0 where
@@ -80,6 +85,26 @@ pub record GoesOn (plan : Plan) (code : Flat) (n : ℕ) (c : All Spot) : Type 0 
   pub unchosen : IsUnchosen others c.choices
   pub plain : IsPlain (own_of n c)
   pub only : moves_of plan code n c ≡ own_move n ∷ []
+
+-- the ending of a step that leaves a construct
+abbrev pub EndsConstruct : Last → Type 0
+EndsConstruct (Ends c next) = Unit {0}
+EndsConstruct (Leaves n to) = Unit {0}
+EndsConstruct last = ⊥
+
+-- the task of a number is to leave a block or procedure next, on which no task depends
+pub record LeavesAlone (code : Flat) (n : ℕ) (c : All Spot) : Type 0 where
+  pub task : TaskAt Spot
+  pub there : slice_get c.tasks n ≡ Some task
+  pub none : task.own.pending ≡ None
+  pub uncut : c.shared.cut ≡ false
+  pub plain : EndsPlainly code
+  pub loops : ℕ
+  pub asks : (s : Scene) → asked_at code None s task.control ≡ ends loops
+  pub comes : (plan : Plan) (s : Sight) → coming_at code plan None s task.control ≡ ending
+  pub master : ℕ
+  pub leaves : master_left_by (construct_left task.own) ≡ Some master
+  pub free : any (λ (t : TaskAt Spot). depends master t.own) c.tasks ≡ false
 
 -- no object has an action under way
 abbrev pub AreIdle : All Spot → Type 0

@@ -12,6 +12,7 @@ mod endings;
 mod entries;
 mod hindering;
 mod leave;
+mod leaving;
 pub mod moves;
 mod objects;
 pub mod run;

@@ -6,81 +6,100 @@ use aud_expr::operands::Operands;
 use aud_gen::generate;
 use aud_machine::machine::opened;
 use aud_tasks::compiled::Compiled;
-use aud_tasks::run::run;
+use aud_tasks::run::{run, run_on};
 use aud_text::limits::STANDARD;
 use aud_typed::program::Program;
 use std::alloc::{AllocError, Global};
 use std::process::Abort;
 use std::test::Fail;
 
-// A program. Behind its first `before` steps main takes `ahead` steps without a look at the moves.
+// A program. Behind its first `before` steps main takes `ahead` steps without a look at the moves, and `in_all` with the
+// ends of blocks and procedures on which no task depends.
 struct Shape {
     what: &'static str,
     text: &'static [u8],
     before: u32,
     ahead: u32,
+    in_all: u32,
 }
 
-const SHAPES: [Shape; 10] = [
+const SHAPES: [Shape; 11] = [
     Shape {
         what: "a call, and the procedure's statements, up to its end",
         text: b"procedure M is X : Integer := 0; procedure P (N : Integer) is begin X := N; end P; begin P (1); P (2); end M;\n",
         before: 0,
         ahead: 3,
+        in_all: 7,
     },
     Shape {
         what: "a block, up to its end",
         text: b"procedure M is X : Integer := 0; begin declare Y : Integer := 1; begin X := Y; end; X := 2; end M;\n",
         before: 1,
         ahead: 3,
+        in_all: 5,
     },
     Shape {
         what: "a loop from its beginning to its end, and a statement after it",
         text: b"procedure M is begin for I in 1 .. 2 loop null; end loop; null; end M;\n",
         before: 0,
         ahead: 6,
+        in_all: 6,
     },
     Shape {
         what: "an exit out of a loop with a parameter",
         text: b"procedure M is begin for I in 1 .. 9 loop exit when I > 1; end loop; end M;\n",
         before: 0,
         ahead: 4,
+        in_all: 4,
+    },
+    Shape {
+        what: "a block on which a task depends",
+        text: b"procedure M is begin declare task T; task body T is begin delay 1.0; end T; begin null; end; end M;\n",
+        before: 4,
+        ahead: 1,
+        in_all: 1,
     },
     Shape {
         what: "a return, up to the procedure's end",
         text: b"procedure M is procedure P is begin if True then return; end if; null; end P; begin P; end M;\n",
         before: 0,
         ahead: 3,
+        in_all: 4,
     },
     Shape {
         what: "output",
         text: b"procedure M is begin Put_Line (\"a\"); Put (\"b\"); end M;\n",
         before: 0,
         ahead: 2,
+        in_all: 2,
     },
     Shape {
         what: "an exception, up to its handler",
         text: b"procedure M is begin null; raise Constraint_Error; exception when others => null; end M;\n",
         before: 0,
         ahead: 2,
+        in_all: 2,
     },
     Shape {
         what: "an array, and an element of it",
         text: b"procedure M is A : array (1 .. 9) of Natural; begin A (1) := 2; end M;\n",
         before: 0,
         ahead: 2,
+        in_all: 2,
     },
     Shape {
         what: "an array with too many elements",
         text: b"procedure M is A : array (1 .. 1025) of Natural; begin A (1) := 2; end M;\n",
         before: 0,
         ahead: 0,
+        in_all: 0,
     },
     Shape {
         what: "up to a delay",
         text: b"procedure M is begin null; delay 1.0; null; end M;\n",
         before: 0,
         ahead: 1,
+        in_all: 1,
     },
 ];
 
@@ -94,6 +113,7 @@ fn goes_ahead(
     program: &Program,
     code: &SoundCode,
     shape: &Shape,
+    is_leaving: bool,
 ) -> Result<(), AllocError> {
     let mut state = opened(alloc, code, program, STANDARD)?;
     let compiled = Compiled {
@@ -105,8 +125,17 @@ fn goes_ahead(
     assert!(rt; state.steps() <= 1_000 && shape.before <= 1_000);
     run(&mut state, alloc, compiled, &mut operands, shape.before)?;
     assert!(rt; state.steps() <= 1_000 && 0 < state.len());
-    let taken = state.run_ahead(code, &program.units, 0, &mut operands, 1_000)?;
-    assert!(rt; taken.steps == shape.ahead, "{}", shape.what);
+    let taken = if is_leaving {
+        run_on(&mut state, alloc, compiled, &mut operands, 1_000)?
+    } else {
+        state.run_ahead(code, &program.units, 0, &mut operands, 1_000)?
+    };
+    let wanted = if is_leaving {
+        shape.in_all
+    } else {
+        shape.ahead
+    };
+    assert!(rt; taken.steps == wanted, "{}", shape.what);
     Ok(())
 }
 
@@ -130,7 +159,8 @@ fn takes_steps_ahead(rt: HostRuntime) -> Result<(), Fail> {
     for shape in &SHAPES {
         let program = loaded(rt.alloc(), shape.text)?;
         let code = generate(rt.alloc(), &program)?;
-        goes_ahead(&rt, rt.alloc(), program.program(), &code, shape)?;
+        goes_ahead(&rt, rt.alloc(), program.program(), &code, shape, false)?;
+        goes_ahead(&rt, rt.alloc(), program.program(), &code, shape, true)?;
     }
     Ok(())
 }
