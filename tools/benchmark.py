@@ -469,10 +469,14 @@ TASKS = [
 ]
 
 
+# As many choices as may wait.
+CHOOSES = "".join("CHOOSE " + " ".join(str(at % 60) for at in range(first, first + 250)) + "\n" for first in range(0, 10_000, 250))
+
+
 def of_tasks(program, source, choices):
     """The steps of a program with tasks, and the seconds that they take: in the order of the tasks, or by choices, as many as may wait."""
     session = load_of(source)
-    chosen = "".join("CHOOSE " + " ".join(str(at % 60) for at in range(first, first + 250)) + "\n" for first in range(0, 10_000, 250)) if choices else ""
+    chosen = CHOOSES if choices else ""
     alone, _ = measure([program, "--solo"], (session + chosen).encode())
     whole, wrote = measure([program, "--solo"], (session + chosen + ("RUN 9000\n" if choices else "RUN 100000\n" * 10)).encode())
     steps = sum(int(line.split()[1]) for line in wrote.decode().splitlines() if line.startswith("ran "))

@@ -1,12 +1,12 @@
-"""Counts the machine instructions of a step of each loop of benchmark.py, by callgrind: what a session of a LOAD and of RUNs up to the program's
-end takes, without what the LOAD alone takes. The count is the same whatever else the machine does.
-usage: instructions.py PROGRAM [WORD ..], of the loops whose names have one of the words
+"""Counts the machine instructions of a step of each loop of benchmark.py, and of its programs with tasks, in their order and by choices, by
+callgrind: what a session with RUNs takes, without what it takes up to the first one. The count is the same whatever else the machine does.
+usage: instructions.py PROGRAM [WORD ..], of those whose names have one of the words
 """
 import re
 import subprocess
 import sys
 
-from benchmark import LOOPS
+from benchmark import CHOOSES, LOOPS, TASKS, load_of
 
 COUNT = re.compile(rb"refs:\s*([0-9,]+)")
 
@@ -18,17 +18,25 @@ def instructions(program, session):
     return int(COUNT.search(ran.stderr)[1].replace(b",", b"")), ran.stdout.decode()
 
 
-def main(program, *words):
+def begun():
+    """Of each loop, and of each program with tasks, its name, what a session with it begins with, its RUNs, and the steps that are known."""
     for loop in LOOPS:
-        if words and not any(word in loop.name for word in words):
+        yield loop.name, load_of(loop.ada), "RUN 100000\n" * 10, loop.steps
+    for name, source in TASKS:
+        yield name, load_of(source), "RUN 100000\n" * 10, None
+        yield f"{name}, by choices", load_of(source) + CHOOSES, "RUN 9000\n", 9_000
+
+
+def main(program, *words):
+    for name, first, runs, known in begun():
+        if words and not any(word in name for word in words):
             continue
-        load = f"LOAD {loop.ada.count(chr(10))}\n{loop.ada}".encode()
-        alone, _ = instructions(program, load + b"QUIT\n")
-        whole, told = instructions(program, load + b"RUN 100000\n" * 10 + b"QUIT\n")
-        if f"ran {loop.steps % 100_000} ended" not in told:
-            sys.exit(f"instructions: {loop.name}: {told}")
-        taken = whole - alone
-        print(f"{loop.name}: {taken / 1e6:.1f} million, {taken / loop.steps:.0f} a step", flush=True)
+        alone, _ = instructions(program, f"{first}QUIT\n".encode())
+        whole, told = instructions(program, f"{first}{runs}QUIT\n".encode())
+        steps = sum(int(taken) for taken in re.findall(r"^ran (\d+)", told, re.MULTILINE))
+        if not steps or known not in (None, steps):
+            sys.exit(f"instructions: {name}: {told}")
+        print(f"{name}: {(whole - alone) / 1e6:.1f} million, {(whole - alone) / steps:.0f} a step", flush=True)
 
 
 main(*sys.argv[1:])
