@@ -18,8 +18,8 @@ use crate::assemble::{
     alone, boxed, connected, product, push_added, push_multiplied, push_relation, push_tree,
     related, sum, unrelated,
 };
-use aud_cursor::behind::{both, ended};
 use aud_connective::connective::{again, comes_again, logical};
+use aud_cursor::behind::{both, ended};
 use aud_cursor::cursor::{Read, Rest, accept, chosen, deeper, is, is_one_of, token, word};
 use aud_cursor::leaf::{ident, literal};
 use aud_cursor::value::number_value;
