@@ -1,5 +1,4 @@
 pub mod Behind
-pub mod Connects
 pub mod Items
 pub mod Parts
 pub mod Reads

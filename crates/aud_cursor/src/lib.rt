@@ -4,7 +4,6 @@
 pub mod behind;
 pub mod choice_list;
 pub mod clauses;
-pub mod connective;
 pub mod cursor;
 pub mod leaf;
 pub mod mode;

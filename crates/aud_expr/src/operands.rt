@@ -22,7 +22,6 @@ use std::collections::VecDeque;
 use std::marker::Model;
 
 /// The operands of a step. Few steps have more than eight Integers or truth values at once.
-#[derive(Drop)]
 pub struct Operands {
     integers: SmallVec<i32, 8>,
     booleans: SmallVec<bool, 8>,
@@ -39,6 +38,28 @@ pub struct Operands {
     delays: VecDeque<OpenDelay>,
     terminate: bool,
     timed: Vec<OpenDelay>,
+}
+
+// One call wherever they are dropped.
+impl Drop for Operands {
+    fn drop(self) {
+        let Operands {
+            integers: _,
+            booleans: _,
+            targets: _,
+            text: _,
+            values: _,
+            backs: _,
+            names: _,
+            delay: _,
+            declares: _,
+            cells: _,
+            accepts: _,
+            delays: _,
+            terminate: _,
+            timed: _,
+        } = self;
+    }
 }
 
 /// No time.

@@ -11,15 +11,15 @@ ghost use Rattle.aud_grammar.specs.Actions.{a_sign, an_adding, a_multiplying, an
 ghost use Rattle.aud_cursor.specs.Ties.Items.{vec_item, opt_item, boxed_item};
 ghost use Rattle.aud_cursor.specs.Ties.Reads.{Reads, MayRead, Takes, TakesAny};
 ghost use Rattle.aud_cursor.specs.Ties.Parts.{IsValue};
-ghost use Rattle.aud_cursor.specs.Ties.Connects.{further};
+ghost use Rattle.aud_connective.specs.Ties.Connects.{further};
 ghost use Rattle.aud_parse_expr.specs.Ties.Items.{parens_item, part_item, name_item, args_item, attribute_item, primary_item, factor_item, multiplied_item, term_item, added_item, simple_item, relation_item, expression_item};
 
 use crate::assemble::{
     alone, boxed, connected, product, push_added, push_multiplied, push_relation, push_tree,
     related, sum, unrelated,
 };
+use aud_connective::connective::{again, comes_again, logical};
 use aud_cursor::behind::{both, ended};
-use aud_cursor::connective::{again, comes_again, logical};
 use aud_cursor::cursor::{Read, Rest, accept, chosen, deeper, is, is_one_of, token, word};
 use aud_cursor::leaf::{ident, literal};
 use aud_cursor::value::number_value;

@@ -55,7 +55,16 @@ pub fn finish<B: Barriers>(
     let at = inner.at;
     let backs = state.backs(alloc, n)?;
     state.close(n);
-    return_from(state, alloc, code, pending, returns, &backs, inner, n)?;
+    return_from(
+        state,
+        alloc,
+        code,
+        pending,
+        returns,
+        backs.as_slice(),
+        inner,
+        n,
+    )?;
     if is_function {
         state.end_action(n, object);
         return Ok(());

@@ -14,9 +14,10 @@ ghost use Rattle.aud_state.specs.Returning.{given_all, valued};
 use crate::copies::{copy_back, give_value};
 use crate::state::State;
 use aud_code::sound_code::SoundCode;
+use aud_store::cells::Cells;
 use aud_store::purpose::Returns;
 use aud_store::stack::Open;
-use aud_store::target::{Back, Target};
+use aud_store::target::{Back, Backs, Target};
 use aud_text::int32::Int32;
 use aud_text::place::Pos;
 use aud_text::raise::Raise;
@@ -40,16 +41,15 @@ impl State {
     /// # Errors
     ///
     /// Where memory is refused.
-    pub fn backs(&self, alloc: Global, n: usize) -> Result<Vec<Back>, AllocError>
+    pub fn backs(&self, alloc: Global, n: usize) -> Result<Backs, AllocError>
         ensures { IfOk result (λ bs. bs.items ≡ innermost_backs (own_of n self.now).opened) }
     {
         if n < self.tasks.len() {
             let found = &self.tasks[n];
-            let mut backs = Vec::new(alloc);
-            backs.extend_from_slice(found.parked.stack().backs())?;
+            let backs = Backs::from_slice(alloc, found.parked.stack().backs())?;
             return Ok(backs);
         }
-        Ok(Vec::new(alloc))
+        Ok(Backs::new(alloc))
     }
 
     /// What the variables of a frame hold; of one that was never made there are none.
@@ -57,17 +57,16 @@ impl State {
     /// # Errors
     ///
     /// Where memory is refused.
-    pub fn cells(&self, alloc: Global, frame: usize) -> Result<Vec<Int32>, AllocError>
+    pub fn cells(&self, alloc: Global, frame: usize) -> Result<Cells, AllocError>
         ensures { IfOk result (λ cs. cs.items ≡
             slice_index_or self.now.shared.frames frame []) }
     {
         let frames = self.progress.store().frames();
         if frame < frames.len() {
-            let mut cells = Vec::new(alloc);
-            cells.extend_from_slice(frames.frame(frame))?;
+            let cells = Cells::from_slice(alloc, frames.frame(frame))?;
             return Ok(cells);
         }
-        Ok(Vec::new(alloc))
+        Ok(Cells::new(alloc))
     }
 
     /// A procedure or function whose frame is left ends normally: its formals are copied back and a function's value is
@@ -100,7 +99,7 @@ impl State {
             return Ok(());
         }
         let values = self.cells(alloc, frame)?;
-        match self.give_all(&values, backs, returns) {
+        match self.give_all(values.as_slice(), backs, returns) {
             None => {
                 self.take(code, n, 0);
                 Ok(())

@@ -4,6 +4,7 @@ ghost use Rattle.std.specs.Prelude.{◌≡◌};
 ghost use Rattle.aud_meaning.specs.Configuration.{Target as Plain, Back as PlainBack};
 
 use aud_typed::program::Subtype;
+use smallvec::SmallVec;
 use std::marker::Model;
 
 /// A variable that was found: the number of its frame, its cell there, and its subtype.
@@ -54,6 +55,9 @@ impl Target {
     }
 }
 
+/// The formals that a call copies back; few need no memory of their own.
+pub type Backs = SmallVec<Back, 4>;
+
 /// A formal, by its number, that is copied back, and where to (RM 6.4.1(17)).
 #[derive(Clone, Copy)]
 pub struct Back {
@@ -67,6 +71,16 @@ impl Model for Back {
     ghost view = { λ b. record { formal = b.formal; target = b.target } };
 
     ghost inverse = { λ b. record { formal = b.formal; target = b.target } };
+}
+
+// What fills the room of a list that has fewer.
+impl Default for Back {
+    fn default() -> Self {
+        Back {
+            formal: 0,
+            target: Target::new(0, 0, Subtype::Integer),
+        }
+    }
 }
 
 impl Back {

@@ -238,7 +238,15 @@ fn end_procedure(
     state.close(n);
     ending::leave(state, alloc, code, inner.frame)?;
     match pending {
-        None => state.return_from(alloc, code, returns, &backs, inner.frame, inner.at, n),
+        None => state.return_from(
+            alloc,
+            code,
+            returns,
+            backs.as_slice(),
+            inner.frame,
+            inner.at,
+            n,
+        ),
         Some(pending) => {
             state.raise(n, pending.exception, inner.at);
             Ok(())

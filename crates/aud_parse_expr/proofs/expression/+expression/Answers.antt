@@ -2,7 +2,7 @@ use Rattle.aud_grammar.specs.Grammar as g
 use Rattle.std.proofs.Common.{sym, ◌∙◌, refl, rules, ap, ◌∷◌}
 use Rattle.aud_grammar.specs.Ties.Outcome.{o_rule, o_this, o_other, o_last, o_yes, o_no, o_more}
 use Rattle.aud_cursor.proofs.Passing.{to, exit, hand_on, level_in, level_out, turns_push, turns_pushed, turns_end, no_level, word_passes, level_on, heads_none, heads_push, heads_on, headed, headed_items}
-use Rattle.aud_cursor.proofs.Connecting.{comes_so}
+use Rattle.aud_connective.proofs.Connecting.{comes_so}
 use Rattle.aud_parse_expr.proofs.Joined.{joined, not_joined, joined_twice, not_joined_twice}
 use Rattle.aud_parse_expr.proofs.Rolls.{factor_items, args_items, part_items, parts_items, named_items}
 use Rattle.aud_grammar.specs.Actions.{none}

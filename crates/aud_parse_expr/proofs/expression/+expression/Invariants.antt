@@ -4,7 +4,7 @@ use Rattle.aud_lex.specs.declared.token.Kind.TheVariants as kind
 use Rattle.aud_grammar.specs.Grammar as g
 use Rattle.aud_grammar.specs.Grammar.{T}
 use Rattle.aud_cursor.specs.Ties.Reads.{Passes}
-use Rattle.aud_cursor.specs.Ties.Connects.{further}
+use Rattle.aud_connective.specs.Ties.Connects.{further}
 use Rattle.aud_parse_expr.specs.Ties.Items.{expression_item, part_item, multiplied_item, added_item, relation_item}
 use Rattle.aud_cursor.proofs.Passing.{Turns, Heads}
 use Rattle.aud_parse_expr.proofs.expression.+expression.Given as goal

@@ -1,7 +1,7 @@
 use Rattle.std.proofs.Common.{rules, arith}
 use Rattle.aud_grammar.specs.Ties.Outcome.{o_yes, o_no}
 use Rattle.aud_cursor.proofs.Passing.{exit}
-use Rattle.aud_cursor.proofs.Connecting.{next_so}
+use Rattle.aud_connective.proofs.Connecting.{next_so}
 use Rattle.aud_parse_expr.proofs.expression.opt_value.Goals as goal
 
 pub returns-in_err-value : goal.returns-in_err-value

@@ -16,7 +16,7 @@ returns-in-None c = on_ok c.return_from.result _ _ c.return_from.ensures (λ h p
     let n = c.args.n in
     let old = c.args.state.now in
     let frame = c.args.inner.frame in
-    let copied = c.deref.ensures.value ∙ c.in_ok-backs.ensures ∙ ap (λ (s : All Spot). innermost_backs (own_of n s).opened) c.out_of_loops.ensures ∙ ap (λ (o : Own). innermost_backs o.opened) (own_on out_of_loops refl n old) in
+    let copied = c.as_slice.ensures ∙ c.in_ok-backs.ensures ∙ ap (λ (s : All Spot). innermost_backs (own_of n s).opened) c.out_of_loops.ensures ∙ ap (λ (o : Own). innermost_backs o.opened) (own_on out_of_loops refl n old) in
     h plan barrier
     ∙ ap (λ (bs : List BackOf). effect.returned go plan barrier (returning_by c.args.returns bs) frame c.args.inner.at n c.leave.new.state) copied
     ∙ ap (λ (s : All Spot). effect.returned go plan barrier (returning_by c.args.returns (innermost_backs (out_of_loops (own_of n old)).opened)) frame c.args.inner.at n s)

@@ -2,9 +2,9 @@
 
 ghost use Rattle.std.specs.Prelude.{◌≡◌, ◌∷◌, []};
 ghost use Rattle.aud_grammar.specs.First.{next_in, firsts};
-ghost use Rattle.aud_cursor.specs.Ties.Connects.{further, Connects, Reconnects};
+ghost use Rattle.aud_connective.specs.Ties.Connects.{further, Connects, Reconnects};
 
-use crate::cursor::{Fault, Rest, accept, is, word};
+use aud_cursor::cursor::{Fault, Rest, accept, is, word};
 use aud_lex::token::Kind;
 use aud_syntax::tree::Connective;
 

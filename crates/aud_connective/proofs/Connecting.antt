@@ -14,7 +14,7 @@ use Rattle.aud_grammar.specs.Parsed.{Verdict}
 use Rattle.aud_grammar.specs.Actions.{Item}
 use Rattle.aud_grammar.specs.Ties.Outcome.{Out, o_rule}
 use Rattle.aud_cursor.specs.Ties.Reads.{Passes, FailsAt, Fewer, ReadsWord}
-use Rattle.aud_cursor.specs.Ties.Connects.{further, Reconnects}
+use Rattle.aud_connective.specs.Ties.Connects.{further, Reconnects}
 use Rattle.aud_cursor.specs.declared.cursor.Rest.{Rest}
 use Rattle.aud_cursor.specs.declared.cursor.Fault.{Fault}
 use Rattle.aud_cursor.proofs.Passing.{fails_through}

@@ -1,6 +1,6 @@
 use Rattle.std.proofs.Common.{ap, ⊎_elim}
-use Rattle.aud_cursor.proofs.Connecting.{second, not_again, one_word, two_words}
-use Rattle.aud_cursor.proofs.connective.again.Goals as goal
+use Rattle.aud_connective.proofs.Connecting.{second, not_again, one_word, two_words}
+use Rattle.aud_connective.proofs.connective.again.Goals as goal
 
 pub returns-in_err-rest : goal.returns-in_err-rest
 returns-in_err-rest c = not_again c.args.operator _ _ c.first_word.ensures c.from_residual.ensures.1 c.in_err-rest.ensures.reads

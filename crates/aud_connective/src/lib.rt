@@ -1,0 +1,4 @@
+// Reads the operators that make a chain of relations: the same one throughout, or a fault.
+#![tactic(auto)]
+
+pub mod connective;
