@@ -243,6 +243,7 @@ fn asks_to_its_end<R: Abort + Wait>(
 ) -> Result<(), DeskFault> {
     desk.submit(rt, alloc, pass, Request::Output)?;
     assert!(rt; desk.collect(rt, alloc, pass)? == Got::New(1));
+    assert!(rt; desk.collect(rt, alloc, pass)? == Got::Idle);
     desk.submit(rt, alloc, pass, Request::Quit)?;
     let refused = desk.submit(rt, alloc, pass, Request::Output);
     assert!(rt; refused == Err(DeskFault::NotClaimed));

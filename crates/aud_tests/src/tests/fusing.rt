@@ -122,14 +122,15 @@ fn begins_as_told(rt: &impl Abort, code: &SoundCode, wanted: &[&str]) {
     assert!(rt; count == wanted.len());
 }
 
-// A program with loops, and how many steps of its code are fused. After the first steps, so many, `run_fast` takes
-// `at_once` of this task's.
+// A program with loops, and how many steps of its code are fused. After the first steps, so many, `run_once` takes `once`
+// of this task's, and then `run_fast` takes `at_once`.
 struct Shape {
     what: &'static str,
     text: &'static [u8],
     fused: usize,
     before: u32,
     task: usize,
+    once: u32,
     at_once: u32,
 }
 
@@ -141,7 +142,8 @@ const SHAPES: [Shape; 10] = [
         fused: 3,
         before: 1,
         task: 0,
-        at_once: 19,
+        once: 1,
+        at_once: 18,
     },
     Shape {
         what: "a loop in a task, and a null statement",
@@ -149,7 +151,8 @@ const SHAPES: [Shape; 10] = [
         fused: 4,
         before: 4,
         task: 1,
-        at_once: 19,
+        once: 1,
+        at_once: 18,
     },
     Shape {
         what: "a loop in a procedure",
@@ -157,7 +160,8 @@ const SHAPES: [Shape; 10] = [
         fused: 3,
         before: 2,
         task: 0,
-        at_once: 19,
+        once: 1,
+        at_once: 18,
     },
     Shape {
         what: "a loop in a procedure, over main's variable",
@@ -165,7 +169,8 @@ const SHAPES: [Shape; 10] = [
         fused: 3,
         before: 2,
         task: 0,
-        at_once: 19,
+        once: 1,
+        at_once: 18,
     },
     Shape {
         what: "a loop in a block",
@@ -173,7 +178,8 @@ const SHAPES: [Shape; 10] = [
         fused: 3,
         before: 2,
         task: 0,
-        at_once: 19,
+        once: 1,
+        at_once: 18,
     },
     Shape {
         what: "a sum of a parameter's values",
@@ -181,7 +187,8 @@ const SHAPES: [Shape; 10] = [
         fused: 3,
         before: 2,
         task: 0,
-        at_once: 17,
+        once: 1,
+        at_once: 16,
     },
     Shape {
         what: "loops in one another, over an array",
@@ -189,6 +196,7 @@ const SHAPES: [Shape; 10] = [
         fused: 5,
         before: 4,
         task: 0,
+        once: 0,
         at_once: 29,
     },
     Shape {
@@ -197,7 +205,8 @@ const SHAPES: [Shape; 10] = [
         fused: 6,
         before: 3,
         task: 0,
-        at_once: 39,
+        once: 1,
+        at_once: 38,
     },
     Shape {
         what: "a loop in a procedure with a variable, in a main procedure with more of them",
@@ -205,7 +214,8 @@ const SHAPES: [Shape; 10] = [
         fused: 4,
         before: 6,
         task: 0,
-        at_once: 26,
+        once: 1,
+        at_once: 25,
     },
     Shape {
         what: "steps of one value",
@@ -213,7 +223,8 @@ const SHAPES: [Shape; 10] = [
         fused: 14,
         before: 4,
         task: 0,
-        at_once: 118,
+        once: 1,
+        at_once: 117,
     },
 ];
 
@@ -262,6 +273,9 @@ fn does_at_once(
     let mut operands = Operands::new(alloc);
     assert!(rt; state.steps() <= 1_000 && shape.before <= 1_000);
     let _ = run(&mut state, alloc, compiled, &mut operands, shape.before)?;
+    assert!(rt; state.steps() <= 1_000 && shape.task < state.len());
+    let single = state.run_once(code, shape.task);
+    assert!(rt; single.steps == shape.once, "{}", shape.what);
     assert!(rt; state.steps() <= 1_000 && shape.task < state.len());
     let taken = state.run_fast(code, shape.task, 1_000);
     assert!(rt; taken.steps == shape.at_once, "{}", shape.what);
