@@ -37,6 +37,7 @@ SEED = 1
 BY_CHANCE = 200  # sessions that tools/model/chance.py writes
 PATIENCE = 60.0  # seconds that an answer may take
 SETTLING = 30.0  # seconds until the seats of connections that are gone are free
+GROWTH = 2  # so many times the memory that it has after a tenth of the time the server may have at the end
 PAUSE = 0.05  # most seconds between two sessions of a client
 THOUGHT = 0.02  # most seconds before a request of an honest client that thinks
 FEW = 50  # it thinks in sessions of no more requests
@@ -772,14 +773,17 @@ def tell(whole, taken, busy):
 
 
 def tell_left(kept, before, tenth, last, after):
-    """Tells what the server had and has; 1 where threads or files are left, and else 0."""
+    """Tells what the server had and has; 1 where threads or files are left, or where its memory grows, and else 0."""
     print(
         f"memory of the server in MB: {tenth.now:.1f} after a tenth of the time, {last.now:.1f} at the end, {after.most:.1f} at most, {after.now:.1f} without clients;"
         f" of addresses {tenth.addresses:,.0f}, {last.addresses:,.0f}, and {after.addresses:,.0f} without clients"
     )
     print(f"threads and files without clients: {before.threads} and {before.files} before, {after.threads} and {after.files} now")
     print(f"wrong: seats in use with nobody there: {kept}" if kept else f"seats: each of the {SEATS} is free")
-    return int(after.is_more_than(before))
+    grows = last.now > GROWTH * tenth.now
+    if grows:
+        print("wrong: the server's memory grows")
+    return int(after.is_more_than(before) or grows)
 
 
 def main():
