@@ -15,10 +15,11 @@ use std::process::Abort;
 use std::test::Fail;
 
 const LOOPS: &[u8] =
-    b"procedure M is X, Y : Integer := 0; P, Q : Boolean; begin while X < 9 loop X := X + 1; X := X - 1; Y := X * 2; X := X + Y; Y := Y - X; X := X * Y; exit when X = Y; P := X > Y and then P; if P then Y := (X + 1) * 2; else null; end if; X := 7; Y := X; P := True; Q := P; P := not Q; exit when not P; exit when X + Y * 2 > 9; Put (X'Image); end loop; end M;\n";
+    b"procedure M is X, Y : Integer := 0; P, Q : Boolean; A : array (0 .. 9) of Integer; begin while X < 9 loop X := X + 1; X := X - 1; Y := X * 2; X := X + Y; Y := Y - X; X := X * Y; exit when X = Y; P := X > Y and then P; if P then Y := (X + 1) * 2; else null; end if; X := 7; Y := X; X := X + A (Y); P := X > 5 and then Q; exit when P or else Q; P := True; Q := P; P := not Q; exit when not P; exit when X + Y * 2 > 9; Put (X'Image); end loop; end M;\n";
 
-const STEPS_AT_ONCE: [&str; 27] = [
-    // the declarations of X and Y, and of P and Q
+const STEPS_AT_ONCE: [&str; 31] = [
+    // the declarations of X and Y, of P and Q, and of A
+    "apart",
     "apart",
     "apart",
     // `while`, and the statements of its loop
@@ -36,6 +37,9 @@ const STEPS_AT_ONCE: [&str; 27] = [
     "null",
     "assignment of a number",
     "assignment of a variable",
+    "operator on a variable and an element",
+    "target and passing unless a relation holds",
+    "passing where a truth value stays",
     "assignment of a literal truth value",
     "assignment of a truth value",
     "assignment of a negation",
@@ -50,6 +54,16 @@ const STEPS_AT_ONCE: [&str; 27] = [
     "null",
     "apart",
     "apart",
+];
+
+const SHORT_CIRCUITS: &[u8] =
+    b"procedure M is X : Integer := 0; P, Q : Boolean := False; begin P := X > 5 and then X mod 2 = 0; Q := P or else not Q; P := Q and then P; end M;\n";
+
+// What ends those steps.
+const ENDS: [&str; 3] = [
+    "relation and end of an assignment",
+    "negation of a variable and end of an assignment",
+    "truth value of a variable and end of an assignment",
 ];
 
 // Each has a word of its own.
@@ -79,6 +93,8 @@ fn word(fused: &Fused) -> &'static str {
         Fused::PassIfFalse(_) => "passing if false",
         Fused::PassIfTrue(_) => "passing if true",
         Fused::PassUnless { .. } => "passing unless a relation holds",
+        Fused::FindAndPassUnless { .. } => "target and passing unless a relation holds",
+        Fused::PassIfCell { .. } => "passing where a truth value stays",
         Fused::Find(_, _) => "target",
         Fused::LoadElement(_) => "element",
         Fused::FindElement(_, _) => "element as a target",
@@ -89,6 +105,9 @@ fn word(fused: &Fused) -> &'static str {
         Fused::AssignChecked { .. } => "check and end of an assignment",
         Fused::AssignTwo { .. } => "operator and end of an assignment",
         Fused::AssignTruth { .. } => "end of an assignment of a truth value",
+        Fused::AssignRelated { .. } => "relation and end of an assignment",
+        Fused::AssignTruthOf { .. } => "truth value of a variable and end of an assignment",
+        Fused::AssignNegationOf { .. } => "negation of a variable and end of an assignment",
         Fused::Test { .. } => "end of a test",
         Fused::TestNewest { .. } => "relation and end of a test",
         Fused::AssignSum { .. } => "sum of a variable and a number",
@@ -97,6 +116,7 @@ fn word(fused: &Fused) -> &'static str {
         Fused::AssignSumOfCells { .. } => "sum of two variables",
         Fused::AssignDifferenceOfCells { .. } => "difference of two variables",
         Fused::AssignCells { .. } => "other operator on two variables",
+        Fused::AssignElement { .. } => "operator on a variable and an element",
         Fused::SetInteger { .. } => "assignment of a number",
         Fused::CopyInteger { .. } => "assignment of a variable",
         Fused::SetTruth { .. } => "assignment of a literal truth value",
@@ -122,6 +142,15 @@ fn begins_as_told(rt: &impl Abort, code: &SoundCode, wanted: &[&str]) {
     assert!(rt; count == wanted.len());
 }
 
+fn stands_somewhere(code: &SoundCode, wanted: &str) -> bool {
+    for place in 0..code.len() {
+        if code.fused(place).map_or("nothing", word) == wanted {
+            return true;
+        }
+    }
+    false
+}
+
 // A program with loops, and how many steps of its code are fused. After the first steps, so many, `run_once` takes `once`
 // of this task's, and then `run_fast` takes `at_once`.
 struct Shape {
@@ -135,7 +164,7 @@ struct Shape {
 }
 
 // The last of these steps is that of the null statement of a body for a number that none has.
-const SHAPES: [Shape; 10] = [
+const SHAPES: [Shape; 11] = [
     Shape {
         what: "a loop in main",
         text: b"procedure M is X : Integer := 0; begin while X < 9 loop X := X + 1; end loop; end M;\n",
@@ -191,6 +220,15 @@ const SHAPES: [Shape; 10] = [
         at_once: 16,
     },
     Shape {
+        what: "a sum over an array",
+        text: b"procedure M is S : Integer := 0; A : array (0 .. 9) of Integer; begin for I in 0 .. 9 loop S := S + A (I); end loop; end M;\n",
+        fused: 3,
+        before: 3,
+        task: 0,
+        once: 1,
+        at_once: 18,
+    },
+    Shape {
         what: "loops in one another, over an array",
         text: b"procedure M is S : Integer := 0; A : array (0 .. 9) of Integer; begin for J in 1 .. 3 loop for I in reverse 0 .. 9 loop A (I) := A (9 - I) + J; S := S + A (I); end loop; end loop; end M;\n",
         fused: 5,
@@ -244,6 +282,16 @@ fn fuses_whole_steps(rt: HostRuntime) -> Result<(), Fail> {
     let program = loaded(rt.alloc(), LOOPS)?;
     let code = generate(rt.alloc(), &program)?;
     begins_as_told(&rt, &code, &STEPS_AT_ONCE);
+    Ok(())
+}
+
+#[test]
+fn fuses_ends_of_steps(rt: HostRuntime) -> Result<(), Fail> {
+    let program = loaded(rt.alloc(), SHORT_CIRCUITS)?;
+    let code = generate(rt.alloc(), &program)?;
+    for wanted in &ENDS {
+        assert!(rt; stands_somewhere(&code, wanted), "{wanted}");
+    }
     Ok(())
 }
 
