@@ -3,7 +3,7 @@
 An honest client takes a seat of its own, again and again, and sends a session that chance picks: one request after the other, or all
 of it in pieces of any size. Every byte up to the end of the connection has to be what `aud --solo` answers to the same session.
 A hostile client does at the other seats what no user should; where it reads answers, these are looked at too. Each client has one
-connection at most. Once all are gone, each seat has to be free.
+connection at most. Once all are gone, each seat has to be free, and where 64 are connected a further one waits until one of them ends.
 It tells what it measured, and ends with status 0 where nothing was wrong.
 usage: load.py PROGRAM SESSIONS SECONDS
 """
@@ -36,6 +36,8 @@ MOST_WORKERS = 16
 SEED = 1
 BY_CHANCE = 200  # sessions that tools/model/chance.py writes
 PATIENCE = 60.0  # seconds that an answer may take
+CLIENTS = 64  # connections that are served at once
+WAITS = 1.0  # seconds without an answer to a further one
 SETTLING = 30.0  # seconds until the seats of connections that are gone are free
 GROWTH = 2  # so many times the memory that it has after a tenth of the time the server may have at the end
 PAUSE = 0.05  # most seconds between two sessions of a client
@@ -724,6 +726,30 @@ def seats_in_use(port):
     return kept
 
 
+def further_one(port):
+    """What is wrong with a client's connection while as many are served as may be: it is answered before one of them ends, or not
+    behind that."""
+    served = [connected(port) for _ in range(CLIENTS)]
+    try:
+        for link in served:
+            link.sendall(b"\n")
+            link.recv(1 << 10)
+        further = connected(port)
+        served.append(further)
+        further.sendall(b"SEAT 1\nQUIT\n")
+        if select.select([further], [], [], WAITS)[0]:
+            return f"a client is answered beside {CLIENTS} others"
+        served.pop(0).close()
+        wanted = Wanted([CLAIMED, CLAIMED])
+        read_out(further, wanted)
+        return None
+    except (Wrong, OSError) as fault:
+        return f"a client behind {CLIENTS} others: {fault}"
+    finally:
+        for link in served:
+            link.close()
+
+
 def load(program, folder, seconds):
     """The number of things that were wrong."""
     groups = sessions_of(program, folder)
@@ -752,6 +778,9 @@ def load(program, folder, seconds):
         if server.poll() is not None:
             print(f"wrong: the server ended with status {server.returncode}")
             return wrong + 1
+        fault = further_one(port)
+        print(f"wrong: {fault}" if fault else f"a client beside {CLIENTS} others waits until one of them ends")
+        wrong += fault is not None
         kept = seats_in_use(port)
         return wrong + len(kept) + tell_left(kept, before, tenth, last, settled(server, before))
     finally:
