@@ -39,7 +39,8 @@ PATIENCE = 60.0  # seconds that an answer may take
 CLIENTS = 64  # connections that are served at once
 WAITS = 1.0  # seconds without an answer to a further one
 SETTLING = 30.0  # seconds until the seats of connections that are gone are free
-GROWTH = 2  # so many times the memory that it has after a tenth of the time the server may have at the end
+GROWTH = 2  # so many times the memory that it has after a tenth of the time the server may have at the end,
+WARM = 60.0  # where that tenth has so many seconds: before, its clients have not sent it all that it holds
 PAUSE = 0.05  # most seconds between two sessions of a client
 THOUGHT = 0.02  # most seconds before a request of an honest client that thinks
 FEW = 50  # it thinks in sessions of no more requests
@@ -782,7 +783,7 @@ def load(program, folder, seconds):
         print(f"wrong: {fault}" if fault else f"a client beside {CLIENTS} others waits until one of them ends")
         wrong += fault is not None
         kept = seats_in_use(port)
-        return wrong + len(kept) + tell_left(kept, before, tenth, last, settled(server, before))
+        return wrong + len(kept) + tell_left(kept, before, tenth, last, settled(server, before), seconds)
     finally:
         for process, _ in begun:
             process.kill()
@@ -801,15 +802,15 @@ def tell(whole, taken, busy):
     print(f"processors: {busy / taken:.2f} for the server, {whole.used / taken:.2f} for the clients")
 
 
-def tell_left(kept, before, tenth, last, after):
-    """Tells what the server had and has; 1 where threads or files are left, or where its memory grows, and else 0."""
+def tell_left(kept, before, tenth, last, after, seconds):
+    """Tells what the server had and has; 1 where threads or files are left, or where its memory grows in so many seconds, and else 0."""
     print(
         f"memory of the server in MB: {tenth.now:.1f} after a tenth of the time, {last.now:.1f} at the end, {after.most:.1f} at most, {after.now:.1f} without clients;"
         f" of addresses {tenth.addresses:,.0f}, {last.addresses:,.0f}, and {after.addresses:,.0f} without clients"
     )
     print(f"threads and files without clients: {before.threads} and {before.files} before, {after.threads} and {after.files} now")
     print(f"wrong: seats in use with nobody there: {kept}" if kept else f"seats: each of the {SEATS} is free")
-    grows = last.now > GROWTH * tenth.now
+    grows = seconds >= 10 * WARM and last.now > GROWTH * tenth.now
     if grows:
         print("wrong: the server's memory grows")
     return int(after.is_more_than(before) or grows)
