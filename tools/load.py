@@ -810,7 +810,10 @@ def tell_left(kept, before, tenth, last, after, seconds):
     )
     print(f"threads and files without clients: {before.threads} and {before.files} before, {after.threads} and {after.files} now")
     print(f"wrong: seats in use with nobody there: {kept}" if kept else f"seats: each of the {SEATS} is free")
-    grows = seconds >= 10 * WARM and last.now > GROWTH * tenth.now
+    grows = last.now > GROWTH * tenth.now
+    if seconds < 10 * WARM:
+        print(f"not judged: whether the server's memory grows; that takes {10 * WARM:.0f} seconds")
+        grows = False
     if grows:
         print("wrong: the server's memory grows")
     return int(after.is_more_than(before) or grows)
