@@ -97,6 +97,31 @@ end
 """
 
 
+# One thread puts numbers into a queue that holds one, and another takes them; in Lua one coroutine hands them to another.
+HANDING_ON_PYTHON = """
+from queue import Queue
+from threading import Thread
+def loop():
+    queue = Queue(1)
+    def consume():
+        for _ in range(20000):
+            s = queue.get()
+    consumer = Thread(target=consume)
+    consumer.start()
+    for i in range(20000):
+        queue.put(i)
+    consumer.join()
+"""
+HANDING_ON_LUA = """
+local function loop()
+  local s = 0
+  local consumer = coroutine.wrap(function() while true do s = coroutine.yield() end end)
+  consumer()
+  for i = 1, 20000 do consumer(i) end
+end
+"""
+
+
 def counting(name, steps, before, behind):
     """The loop that counts and makes two assignments, within other lines of a program."""
     lines = ["while X < 300000 loop", "X := X + 1;", "Y := X - Y;", "end loop;"]
@@ -338,6 +363,73 @@ local function loop()
 end
 """,
     ),
+    Loop(
+        "a producer and a consumer, by rendezvous",
+        20_000,
+        120_010,
+        """procedure B is
+task Consumer is
+entry Take (N : in Integer);
+end Consumer;
+task body Consumer is
+S : Integer := 0;
+begin
+for I in 1 .. 20000 loop
+accept Take (N : in Integer) do
+S := N;
+end Take;
+end loop;
+end Consumer;
+begin
+for I in 1 .. 20000 loop
+Consumer.Take (I);
+end loop;
+end B;
+""",
+        HANDING_ON_PYTHON,
+        HANDING_ON_LUA,
+    ),
+    Loop(
+        "a producer and a consumer, by a protected buffer of one",
+        20_000,
+        220_010,
+        """procedure B is
+protected Buffer is
+entry Put (N : in Integer);
+entry Get (N : out Integer);
+private
+Kept : Integer := 0;
+Full : Boolean := False;
+end Buffer;
+protected body Buffer is
+entry Put (N : in Integer) when not Full is
+begin
+Kept := N;
+Full := True;
+end Put;
+entry Get (N : out Integer) when Full is
+begin
+N := Kept;
+Full := False;
+end Get;
+end Buffer;
+task Consumer;
+task body Consumer is
+S : Integer;
+begin
+for I in 1 .. 20000 loop
+Buffer.Get (S);
+end loop;
+end Consumer;
+begin
+for I in 1 .. 20000 loop
+Buffer.Put (I);
+end loop;
+end B;
+""",
+        HANDING_ON_PYTHON,
+        HANDING_ON_LUA,
+    ),
 ]
 
 PYTHON_LOOP = """
@@ -444,33 +536,63 @@ def loops(program, others):
             print(f"    {name:23}{fast(each)}{beside}")
 
 
-def turns(tasks, over=0, waiting=0):
-    """So many tasks that loop, beside others that are terminated or wait for a call: each goes around until it has done its share of some
-    900,000 steps."""
-    count = 900_000 // (3 * tasks)
-    lines = ["procedure B is", "task type Looping;"]
-    lines += ["task type Over;", f"Gone : array (1 .. {over}) of Over;", "task body Over is begin null; end Over;"] if over else []
-    if waiting:
-        lines += ["task type Waiting is entry Stop; end Waiting;", f"Servers : array (1 .. {waiting}) of Waiting;"]
-        lines += ["task body Waiting is begin select accept Stop; or terminate; end select; end Waiting;"]
-    lines += ["task body Looping is", "X, Y : Integer := 0;", "begin", f"while X < {count} loop", "X := X + 1;", "Y := X - Y;", "end loop;", "end Looping;"]
+# Other tasks of a program, so many of them: terminated, waiting for a call, or waiting at a call that nobody accepts.
+BESIDE = {
+    "terminated": ("task type Over;", "Gone : array (1 .. {}) of Over;", "task body Over is begin null; end Over;"),
+    "wait": (
+        "task type Waiting is entry Stop; end Waiting;",
+        "Servers : array (1 .. {}) of Waiting;",
+        "task body Waiting is begin select accept Stop; or terminate; end select; end Waiting;",
+    ),
+    "have called": (
+        "task Late is entry Stop; end Late;",
+        "task body Late is begin delay 86400.0; end Late;",
+        "task type Calling;",
+        "Callers : array (1 .. {}) of Calling;",
+        "task body Calling is begin Late.Stop; end Calling;",
+    ),
+}
+
+
+def beside(what, count):
+    return [line.format(count) for line in BESIDE[what]] if count else []
+
+
+def turns(tasks, what="terminated", count=0):
+    """So many tasks that loop, beside others: each goes around until it has done its share of some 900,000 steps."""
+    around = 900_000 // (3 * tasks)
+    lines = ["procedure B is", "task type Looping;", *beside(what, count)]
+    lines += ["task body Looping is", "X, Y : Integer := 0;", "begin", f"while X < {around} loop", "X := X + 1;", "Y := X - Y;", "end loop;", "end Looping;"]
     lines += ["begin", "declare", f"All_Of : array (1 .. {tasks}) of Looping;", "begin", "null;", "end;", "end B;"]
     return "\n".join(lines) + "\n"
 
 
+def meetings(what="wait", count=0):
+    """Two tasks that meet again and again, beside others: no step of theirs is taken ahead."""
+    lines = ["procedure B is", *beside(what, count), "task Server is entry Meet; end Server;", "task Caller;"]
+    lines += ["task body Server is begin loop accept Meet; end loop; end Server;"]
+    lines += ["task body Caller is begin loop Server.Meet; end loop; end Caller;", "begin null; end B;"]
+    return "\n".join(lines) + "\n"
+
+
+# 64 tasks in all are the most that there may be.
 TASKS = [
     ("1 task that loops", turns(1)),
     ("2 tasks that loop", turns(2)),
     ("8 tasks that loop", turns(8)),
-    ("60 tasks that loop", turns(60)),
-    ("2 tasks that loop beside 58 that are terminated", turns(2, 58)),
-    ("1 task that loops beside 1 that waits", turns(1, waiting=1)),
-    ("1 task that loops beside 62 that wait", turns(1, waiting=62)),
+    ("63 tasks that loop", turns(63)),
+    ("2 tasks that loop beside 61 that are terminated", turns(2, "terminated", 61)),
+    ("1 task that loops beside 1 that waits", turns(1, "wait", 1)),
+    ("1 task that loops beside 62 that wait", turns(1, "wait", 62)),
+    ("1 task that loops beside 61 that have called", turns(1, "have called", 61)),
+    ("2 tasks that meet", meetings()),
+    ("2 tasks that meet beside 61 that wait", meetings("wait", 61)),
+    ("2 tasks that meet beside 60 that have called", meetings("have called", 60)),
 ]
 
 
 # As many choices as may wait.
-CHOOSES = "".join("CHOOSE " + " ".join(str(at % 60) for at in range(first, first + 250)) + "\n" for first in range(0, 10_000, 250))
+CHOOSES = "".join("CHOOSE " + " ".join(str(at % 63) for at in range(first, first + 250)) + "\n" for first in range(0, 10_000, 250))
 
 
 def of_tasks(program, source, choices):

@@ -164,7 +164,7 @@ struct Shape {
 }
 
 // The last of these steps is that of the null statement of a body for a number that none has.
-const SHAPES: [Shape; 11] = [
+const SHAPES: [Shape; 12] = [
     Shape {
         what: "a loop in main",
         text: b"procedure M is X : Integer := 0; begin while X < 9 loop X := X + 1; end loop; end M;\n",
@@ -245,6 +245,15 @@ const SHAPES: [Shape; 11] = [
         task: 0,
         once: 1,
         at_once: 38,
+    },
+    Shape {
+        what: "short circuits that end in a variable, and in a negation",
+        text: b"procedure M is X : Integer := 0; P : Boolean := True; Q : Boolean := False; begin while X < 9 loop X := X + 1; P := Q or else P; Q := P and then not Q; end loop; end M;\n",
+        fused: 5,
+        before: 3,
+        task: 0,
+        once: 1,
+        at_once: 36,
     },
     Shape {
         what: "a loop in a procedure with a variable, in a main procedure with more of them",
