@@ -1,11 +1,10 @@
-// Accepts that end, and calls that are cancelled (RM 9.5.2, 9.5.3).
+// Accepts that end (RM 9.5.2).
 
 ghost use Rattle.std.specs.Prelude.{◌≡◌, ℕ, List, Bool, Result, OnOk};
 ghost use Rattle.aud_text.specs.declared.raise.Raise.{Raise as RaiseOf};
 ghost use Rattle.aud_typed.specs.Tree.{Plan};
 ghost use Rattle.aud_meaning.specs.Configuration.{Back as BackOf};
 ghost use Rattle.aud_meaning.specs.Evaluation.{Sight};
-ghost use Rattle.aud_meaning.specs.Parts.{cancels};
 ghost use Rattle.aud_meaning.specs.Tasks as effect;
 ghost use Rattle.aud_code.specs.Control.{going};
 ghost use Rattle.aud_store.specs.Ties.Stored.{plain_open};
@@ -49,11 +48,4 @@ pub fn finish(
             Ok(())
         }
     }
-}
-
-/// A queued call is cancelled (RM 9.5.3(20)).
-pub fn cancel(state: &mut State, id: usize)
-    ensures { state.new ≡ cancels id state.old }
-{
-    state.cancel_call(id);
 }
