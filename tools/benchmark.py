@@ -1,9 +1,10 @@
 """Times `aud --solo` beside python3 and lua5.4, side by side in one run.
 
-Loops: the same in each, the first once more with a handler around it that nothing needs; theirs within a function with local variables. Of aud the processor time of
+Loops: the same in each, the first once more with a handler around it that nothing needs; theirs within a function with local variables. A
+producer and a consumer hand on numbers beside Python's queue between threads and Lua's coroutines. Of aud the processor time of
 whole sessions is taken, of a LOAD alone and of a LOAD with RUNs up to the program's end; the difference is
 the loop. The others time their loops themselves.
-Tasks: steps a second of programs whose tasks loop, in the order of the tasks and by choices.
+Tasks: steps a second of programs whose tasks loop or meet, in the order of the tasks and by choices.
 Views: requests a second of a session that takes steps of a program with tasks and looks at it after them.
 Memory: the most that a session has that takes all steps of a LOAD, where programs enter and leave frames with arrays; and python3, with
 calls and lists.
