@@ -2,7 +2,7 @@
 #![tactic(auto)]
 
 use aud_server::program::{ProgramFault, program, refuse};
-use aud_solo::solo::SoloFault;
+use aud_solo::serving::ServeFault;
 use std::process::ExitCode;
 use std::rt::Env;
 use std::{env, io};
@@ -11,7 +11,7 @@ fn main(rt: HostRuntime) -> ExitCode {
     let status = match words(&rt) {
         Ok(words) => program(&rt, &words),
         Err(error) if error.kind() == io::ErrorKind::OutOfMemory => {
-            refuse(&rt, ProgramFault::Server(SoloFault::Memory))
+            refuse(&rt, ProgramFault::Server(ServeFault::Memory))
         }
         Err(_) => refuse(&rt, ProgramFault::Arguments),
     };

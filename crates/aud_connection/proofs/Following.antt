@@ -1,15 +1,14 @@
 -- What a private server keeps and answers, request by request.
 use Rattle.std.specs.Prelude.{slice_get, if◌then◌else◌}
-use Rattle.std.proofs.Common.{◌≡◌, ℕ, zero, suc, ◌+◌, ◌-◌, List, [], ◌∷◌, ◌++◌, length, Option, Some, None, Bool, true, false, refl, sym, ap, ◌∙◌, arith, append-nil, append_assoc, length-append}
+use Rattle.std.proofs.Common.{◌≡◌, ℕ, zero, suc, ◌+◌, ◌-◌, List, [], ◌∷◌, ◌++◌, length, Some, None, Bool, true, false, refl, sym, ap, ◌∙◌, arith, append-nil, append_assoc, length-append}
 use Rattle.aud_text.specs.declared.refusal.Refusal.TheVariants as refusal
 use Rattle.aud_text.specs.declared.limits.Limits.{Limits}
 use Rattle.aud_bench.specs.declared.request.Request.{Request}
 use Rattle.aud_bench.specs.declared.request.Answer.{Answer}
 use Rattle.aud_bench.specs.declared.request.Answer.TheVariants.{Refused}
-use Rattle.aud_bench.specs.Alone.{Loaded, Server, Reply, is_quit, fits, fresh, kept, replied, answers_from, alone}
+use Rattle.aud_bench.specs.Alone.{Server, Reply, is_quit, fits, kept, replied, answers_from, alone}
 use Rattle.aud_bench.specs.Seen.{has_quit}
-use Rattle.aud_bench.specs.Size.{size, bytes_of}
-use Rattle.aud_bench.specs.Ties.Standing.{loaded_after}
+use Rattle.aud_bench.specs.Size.{bytes_of}
 use Rattle.aud_bench.proofs.Journals.{bytes_append, last_quits}
 use Rattle.aud_bench.proofs.Sessions.{not_kept, last_one, goes_on}
 use Rattle.aud_bench.proofs.Standing.{loaded_append}

@@ -2,4 +2,3 @@ pub mod Following
 pub mod Fronts
 pub mod Texts
 pub mod Visits
-pub mod Turning

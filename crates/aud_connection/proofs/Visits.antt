@@ -1,6 +1,7 @@
 -- What is told for one request more.
-use Rattle.std.proofs.Common.{◌≡◌, ◌⊎◌, inl, inr, ℕ, List, [], ◌∷◌, ◌++◌, length, Option, Some, None, Bool, true, false, refl, sym, ap, ◌∙◌, subst, append-nil, append_assoc}
-use Rattle.std.specs.Io.KnownBytes.{Appends}
+use Rattle.std.proofs.Common.{◌≡◌, ◌⊎◌, inl, inr, ◌||◌, ℕ, List, [], ◌∷◌, ◌++◌, length, Option, Some, None, Bool, true, false, refl, sym, ap, ◌∙◌, subst, append-nil, append_assoc}
+use Rattle.std.specs.List.{list_any}
+use Rattle.std.proofs.lemmas.List.Folds.{list_any-append}
 use Rattle.aud_text.specs.declared.limits.Limits.{Limits}
 use Rattle.aud_bench.specs.declared.request.Request.{Request}
 use Rattle.aud_bench.specs.declared.request.Request.TheVariants.{Seat}
@@ -11,16 +12,16 @@ use Rattle.aud_bench.specs.Seen.{has_quit}
 use Rattle.aud_bench.specs.Size.{bytes_of}
 use Rattle.aud_bench.proofs.Journals.{last_quits}
 use Rattle.aud_bench.proofs.Sessions.{unfit_goes_on}
+use Rattle.aud_lines.specs.Requests.{requests}
 use Rattle.aud_lines.specs.Text.{answer_text}
 use Rattle.aud_pass.specs.Passed.{Passed}
-use Rattle.aud_solo.specs.Streams.{AppendsFront}
-use Rattle.aud_solo.proofs.SoloLaws.{appends_none, appends_more}
+use Rattle.aud_solo.specs.Ties.Serving.{IsFresh, StopsIn}
 use Rattle.aud_connection.specs.declared.visit.Visit.{Visit}
 use Rattle.aud_connection.specs.Told.{Told, Answered, Faulted, told_text, told_texts, all_answered, are_answers}
-use Rattle.aud_connection.specs.Served.{Waits, Talks, Tells, TellsSome}
-use Rattle.aud_connection.specs.Ties.Following.{Keeps, Follows}
-use Rattle.aud_connection.specs.Ties.Visits.{Takes, Refuses, Converses, Admits, TalksOn, RepliesBy, Replies}
-use Rattle.aud_connection.specs.Ties.Turns.{Goes, Seated, IsBy, HasTold, WritesSome, WritesFront}
+use Rattle.aud_connection.specs.Served.{Waits, Talks, Tells, IsOpen, StopsAtQuit}
+use Rattle.aud_connection.specs.Ties.Following.{Keeps}
+use Rattle.aud_connection.specs.Ties.Visits.{Takes, Refuses, Converses, Admits, RepliesBy, Replies}
+use Rattle.aud_connection.specs.Ties.Words.{Goes, Seated, IsBy, visit_words}
 use Rattle.aud_connection.proofs.Following.{last_same, reply, keeps_none, over_still, keeps_over, taken_one, keeps_taken, full_one, keeps_full}
 use Rattle.aud_connection.proofs.Fronts.{begins_none, begins_more, begins_on, lost_answer, lost_fault}
 use Rattle.aud_connection.proofs.Texts.{texts_more, answered_more, answer_more, fault_more, refused_more}
@@ -58,6 +59,7 @@ admitted asked text r said (Some p) over w none (number, r_is, is, there, nothin
     };
     quit = λ e. never over none e;
   };
+  ends = none;
 }
   where
     never : (b : Bool) → b ≡ false → b ≡ true → has_quit p.sent ≡ true
@@ -116,12 +118,19 @@ module _ (limits : Limits) (after sent : List Request) (over : Bool) (g : Goes l
   next_answer (inl t) = next_taken t
   next_answer (inr t) = next_refused t
 
-module _ (asked : List Request) (text : List ℕ) (r : Request) (said : List ℕ) (p : Passed) (over : Bool) (s : Seated p.limits asked text p.sent over) where
+module _ (asked : List Request) (text : List ℕ) (r : Request) (said : List ℕ) (p : Passed) (over : Bool) (s : Seated p.limits asked text p.sent over) (going : over ≡ false) where
   abbrev talks : Talks p.limits asked text
   talks = s.talks
 
   more_asked : asked ++ r ∷ [] ≡ talks.before ++ Seat talks.number ∷ (talks.after ++ r ∷ [])
   more_asked = ap (λ rs. rs ++ r ∷ []) talks.asked_is ∙ append_assoc talks.before (Seat talks.number ∷ talks.after) (r ∷ [])
+
+  more_ends : is_quit r ≡ list_any is_quit (talks.after ++ r ∷ [])
+  more_ends = sym (list_any-append is_quit talks.after (r ∷ []) ∙ ap (λ b. b || (is_quit r || false)) (sym s.ends ∙ going) ∙ or_false (is_quit r))
+    where
+      or_false : (b : Bool) → (b || false) ≡ b
+      or_false true = refl
+      or_false false = refl
 
   more_text : (t : Told) → said ≡ told_text t → text ++ said ≡ told_texts talks.refused ++ answer_text Done ++ told_texts (talks.told ++ t ∷ [])
   more_text t is =
@@ -147,6 +156,7 @@ module _ (asked : List Request) (text : List ℕ) (r : Request) (said : List ℕ
           lost = lost_fault talks.told f talks.lost lost;
         };
         goes = λ e. absurd (unlike (are_answers (talks.told ++ Faulted f ∷ [])) (fault_more talks.told f) e);
+        ends = more_ends;
       })
     where
       unlike : (b : Bool) → b ≡ false → b ≡ true → ⊥
@@ -176,6 +186,7 @@ module _ (asked : List Request) (text : List ℕ) (r : Request) (said : List ℕ
             λ e.
             let so_far : are_answers talks.told ≡ true = sym (answer_more talks.told a) ∙ e in
             (next_answer p.limits talks.after p.sent over (s.goes so_far) r p q limits_are refl a c).goes;
+        ends = more_ends;
       })
 
 module _ (asked : List Request) (text : List ℕ) (p : Passed) (over : Bool) (s : Seated p.limits asked text p.sent over) where
@@ -211,6 +222,7 @@ module _ (asked : List Request) (text : List ℕ) (p : Passed) (over : Bool) (s 
           };
           quit = g.quit;
         };
+    ends = is_over ∙ sym (list_any-append is_quit talks'.after some ∙ ap (λ b. b || list_any is_quit some) (sym s.ends ∙ is_over));
   }
 
 -- ---- any connection
@@ -219,48 +231,50 @@ is_next : (asked : List Request) (text : List ℕ) (r : Request) (said : List �
 is_next asked text r said None after old new (w, none) going (admits, same) = admitted asked text r said after new w (same ∙ going) admits
 is_next asked text r said (Some p) None old new s going (on, same) = absurd on
 is_next asked text r said (Some p) (Some q) old new s going ((t, is, c), same) =
-    subst (λ b. Seated q.limits (asked ++ r ∷ []) (text ++ said) q.sent b) (sym same) (talked asked text r said p old s q t is c)
+    subst (λ b. Seated q.limits (asked ++ r ∷ []) (text ++ said) q.sent b) (sym same) (talked asked text r said p old s going q t is c)
 
 is_over : (asked : List Request) (text : List ℕ) (o : Option Passed) (over : Bool) → IsBy asked text o over → over ≡ true → (some : List Request) → IsBy (asked ++ some) text o over
 is_over asked text None over (w, none) e some = absurd (cc)
 is_over asked text (Some p) over s e some = talked_over asked text p over s e some
 
-pub tells_of : (asked : List Request) (text : List ℕ) (o : Option Passed) (over : Bool) → IsBy asked text o over → Tells asked text
+tells_of : (asked : List Request) (text : List ℕ) (o : Option Passed) (over : Bool) → IsBy asked text o over → Tells asked text
 tells_of asked text None over (w, none) = inl w
 tells_of asked text (Some p) over s = inr (p.limits, s.talks)
 
-module _ (before old : Option (List ℕ)) (asked : List Request) (visit : Visit) (told : HasTold before old asked visit) where
-  -- nothing is written of what is told for more
-  pub some_told : (more : List Request) → WritesSome before old (asked ++ more)
-  some_told more = (told.text, (asked, more, refl, tells_of asked told.text visit.pass visit.over told.is), told.written)
+module _ (visit : Visit) where
+  pub told_next : (next : Visit) (r : Request) (said : List ℕ) → visit.over ≡ false → Replies r visit said next →
+      (asked : List Request) (text : List ℕ) → IsBy asked text visit.pass visit.over → IsBy (asked ++ r ∷ []) (text ++ said) next.pass next.over × Tells (asked ++ r ∷ []) (text ++ said)
+  told_next next r said going replies asked text told =
+      let is = is_next asked text r said visit.pass next.pass visit.over next.over told going replies in
+      (is, tells_of (asked ++ r ∷ []) (text ++ said) next.pass next.over is)
 
-  pub told_over : visit.over ≡ true → (some : List Request) → HasTold before old (asked ++ some) visit
-  told_over e some = record { text = told.text; is = is_over asked told.text visit.pass visit.over told.is e some; written = told.written }
-
-  module _ (r : Request) (said : List ℕ) (next : Visit) (going : visit.over ≡ false) (replies : Replies r visit said next) where
-    pub told_next : (new : Option (List ℕ)) → Appends old new said → HasTold before new (asked ++ r ∷ []) next
-    told_next new k = record {
-      text = told.text ++ said;
-      is = is_next asked told.text r said visit.pass next.pass visit.over next.over told.is going replies;
-      written = appends_more before old new told.text said told.written k;
-    }
-
-    pub front_told : (new : Option (List ℕ)) → AppendsFront old new said → WritesFront before new (asked ++ r ∷ [])
-    front_told new (xs, ys, k, f) = (
-      told.text ++ said,
-      (
-        asked ++ r ∷ [],
-        [],
-        sym (append-nil (asked ++ r ∷ [])),
-        tells_of (asked ++ r ∷ []) (told.text ++ said) next.pass next.over (is_next asked told.text r said visit.pass next.pass visit.over next.over told.is going replies),
-      ),
-      (told.text ++ xs, ys, appends_more before old new told.text xs told.written k, ap (λ x. told.text ++ x) f ∙ sym (append_assoc told.text xs ys)),
-    )
+  pub told_still : visit.over ≡ true → (asked more : List Request) (text : List ℕ) → IsBy asked text visit.pass visit.over → IsBy (asked ++ more) text visit.pass visit.over × Tells (asked ++ more) text
+  told_still over asked more text told =
+      let is = is_over asked text visit.pass visit.over told over more in
+      (is, tells_of (asked ++ more) text visit.pass visit.over is)
 
 -- nothing was asked yet
-pub told_start : (before : Option (List ℕ)) (visit : Visit) → visit.pass ≡ None → visit.over ≡ false → HasTold before before [] visit
-told_start before visit none going = record {
-  text = [];
-  is = subst (λ (o : Option Passed). IsBy [] [] o visit.over) (sym none) (record { told = []; refused = tt; text_is = refl }, going);
-  written = appends_none before;
+pub fresh : {S : Type 0} (visit : S → Visit) (s : S) → (visit s).pass ≡ None → (visit s).over ≡ false → IsFresh (visit_words visit) s
+fresh visit s none going =
+    let nothing : Waits [] [] = record { told = []; refused = tt; text_is = refl } in
+    record {
+      is = subst (λ (o : Option Passed). IsBy [] [] o (visit s).over) (sym none) (nothing, going);
+      tells = inl nothing;
+      going = going;
+    }
+
+-- so it stops at the QUIT of a seat
+pub stops_at : {S : Type 0} (visit : S → Visit) (left remaining before now : Option (List ℕ)) → StopsIn (visit_words visit) left remaining before now → StopsAtQuit left remaining before now
+stops_at visit left remaining before now s = record {
+  input = s.input;
+  piece = s.piece;
+  taken = s.taken;
+  told = s.told;
+  goes_on = by (visit s.state).pass (visit s.state).over s.is s.going;
+  written = s.written;
+  short = s.short;
 }
+  where
+    by : (o : Option Passed) (over : Bool) → IsBy (requests s.input) s.told o over → over ≡ false → IsOpen (requests s.input) s.told
+    by None over (w, none) going = inl w
+    by (Some p) over seated going = inr (p.limits, seated.talks, sym seated.ends ∙ going)

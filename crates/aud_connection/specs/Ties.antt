@@ -1,3 +1,3 @@
 pub mod Following
 pub mod Visits
-pub mod Turns
+pub mod Words

@@ -1,8 +1,7 @@
 // What is told for each request of a connection.
 
-ghost use Rattle.std.specs.Prelude.{◌≡◌, ◌++◌, [], ◌∷◌, false, true, Some, None, length, IfOk, OnOk, IfErr};
+ghost use Rattle.std.specs.Prelude.{◌≡◌, ◌++◌, [], ◌∷◌, false, true, Some, None, length, IfOk, OnOk};
 ghost use Rattle.aud_bench.specs.Alone.{is_quit};
-ghost use Rattle.aud_solo.specs.declared.solo.SoloFault.TheVariants as fault;
 ghost use Rattle.aud_connection.specs.Told.{Told, told_text};
 ghost use Rattle.aud_connection.specs.Ties.Visits.{Finishes, Converses, Admits, Replies};
 ghost use Rattle.aud_pass.specs.Replies.{IsWhole};
@@ -14,9 +13,8 @@ use aud_desk::desk::Desk;
 use aud_lines::answers::answer_text;
 use aud_pass::fault::DeskFault;
 use aud_pass::pass::Pass;
-use aud_solo::solo::SoloFault;
 use aud_text::refusal::Refusal;
-use std::alloc::Global;
+use std::alloc::{AllocError, Global};
 use std::sync::Wait;
 
 /// How far a connection is: its pass, once it has a seat, and whether its QUIT was told of.
@@ -49,9 +47,8 @@ impl Visit {
         alloc: Global,
         desk: &Desk,
         request: &Request,
-    ) -> Result<Vec<u8>, SoloFault>
-        ensures told { IfOk result (λ text. Replies request.now self.old text.items self.new) }
-        ensures memory { IfErr result (λ e. e ≡ fault.Memory) }
+    ) -> Result<Vec<u8>, AllocError>
+        ensures { IfOk result (λ text. Replies request.now self.old text.items self.new) }
     {
         match &mut self.pass {
             Some(pass) => {
@@ -70,21 +67,20 @@ fn admit<R: Wait>(
     desk: &Desk,
     pass: &mut Option<Pass>,
     request: &Request,
-) -> Result<Vec<u8>, SoloFault>
+) -> Result<Vec<u8>, AllocError>
     requires { pass.old ≡ None }
-    ensures told { IfOk result (λ text. Admits request.now text.items pass.new) }
-    ensures memory { IfErr result (λ e. e ≡ fault.Memory) }
+    ensures { IfOk result (λ text. Admits request.now text.items pass.new) }
 {
     let Request::Seat(number) = request else {
-        return Ok(fault_text(alloc, DeskFault::NotClaimed)?);
+        return fault_text(alloc, DeskFault::NotClaimed);
     };
     match desk.open(rt, alloc, *number as usize) {
         Ok(opened) => {
             *pass = Some(opened);
-            Ok(answer_text(alloc, &Answer::Done)?)
+            answer_text(alloc, &Answer::Done)
         }
-        Err(DeskFault::Memory) => Err(SoloFault::Memory),
-        Err(refused) => Ok(fault_text(alloc, refused)?),
+        Err(DeskFault::Memory) => Err(AllocError),
+        Err(refused) => fault_text(alloc, refused),
     }
 }
 
@@ -95,27 +91,26 @@ fn converse<R: Wait>(
     desk: &Desk,
     pass: &mut Pass,
     request: &Request,
-) -> Result<Vec<u8>, SoloFault>
-    ensures told { IfOk result (λ text. (told : Told) × (text.items ≡ told_text told)
+) -> Result<Vec<u8>, AllocError>
+    ensures { IfOk result (λ text. (told : Told) × (text.items ≡ told_text told)
         × Converses request.now pass.old told pass.new) }
-    ensures memory { IfErr result (λ e. e ≡ fault.Memory) }
 {
     let request = request.try_clone(alloc)?;
     match desk.submit(rt, alloc, pass, request) {
         Ok(()) => {}
-        Err(DeskFault::Memory) => return Err(SoloFault::Memory),
+        Err(DeskFault::Memory) => return Err(AllocError),
         Err(DeskFault::Full) => {
-            return Ok(answer_text(alloc, &Answer::Refused(Refusal::JournalFull))?);
+            return answer_text(alloc, &Answer::Refused(Refusal::JournalFull));
         }
-        Err(refused) => return Ok(fault_text(alloc, refused)?),
+        Err(refused) => return fault_text(alloc, refused),
     }
     match finish(rt, alloc, desk, pass) {
         Ok(()) => {}
-        Err(DeskFault::Memory) => return Err(SoloFault::Memory),
-        Err(refused) => return Ok(fault_text(alloc, refused)?),
+        Err(DeskFault::Memory) => return Err(AllocError),
+        Err(refused) => return fault_text(alloc, refused),
     }
     match pass.got().last() {
-        Some(answer) => Ok(answer_text(alloc, answer)?),
+        Some(answer) => answer_text(alloc, answer),
         None => unreachable!(),
     }
 }

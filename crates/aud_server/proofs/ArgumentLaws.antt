@@ -21,7 +21,7 @@ use Rattle.clap.proofs.WalkLemmas.{one_text-rows}
 use Rattle.clap.proofs.OnLiterals.{clap_on_literals}
 use Rattle.aud_server.specs.declared.program.ProgramFault.{ProgramFault}
 use Rattle.aud_server.specs.declared.program.ProgramFault.TheVariants.{Server}
-use Rattle.aud_solo.specs.declared.solo.SoloFault.TheVariants as server
+use Rattle.aud_solo.specs.declared.serving.ServeFault.TheVariants as server
 use Rattle.aud_server.specs.Program.{AsksSolo, of_kind}
 
 abbrev pub solo : Text

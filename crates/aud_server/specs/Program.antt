@@ -2,7 +2,7 @@
 use Rattle.std.specs.Prelude.{◌≡◌, ℕ, List, [], ◌∷◌, codes}
 use Rattle.clap.specs.declared.error.ErrorKind.{ErrorKind}
 use Rattle.clap.specs.declared.error.ErrorKind.TheVariants.{OutOfMemory}
-use Rattle.aud_solo.specs.declared.solo.SoloFault.TheVariants as server
+use Rattle.aud_solo.specs.declared.serving.ServeFault.TheVariants as server
 use Rattle.aud_solo.specs.Ended.{fault_status}
 use Rattle.aud_server.specs.declared.program.ProgramFault.{ProgramFault}
 use Rattle.aud_server.specs.declared.program.ProgramFault.TheVariants.{Arguments, Listen, Server}

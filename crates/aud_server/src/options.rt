@@ -2,7 +2,7 @@
 
 ghost use Rattle.std.specs.Prelude.{◌≡◌, ◌⊎◌, ◌≤◌, IfOk, IfErr};
 ghost use Rattle.aud_server.specs.declared.program.ProgramFault.TheVariants as fault;
-ghost use Rattle.aud_solo.specs.declared.solo.SoloFault.TheVariants as server;
+ghost use Rattle.aud_solo.specs.declared.serving.ServeFault.TheVariants as server;
 
 use crate::program::ProgramFault;
 use clap::{Arg, ArgAction, ArgMatches, Command};

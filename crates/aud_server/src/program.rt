@@ -3,13 +3,13 @@
 ghost use Rattle.std.specs.Prelude.{◌≡◌, ◌≢◌, ◌⊎◌, ◌↔◌, length, map, string_bytes, IsTrue, IfOk, IfErr, IsErrOf};
 ghost use Rattle.clap.specs.Words.{kind_of};
 ghost use Rattle.aud_server.specs.declared.program.ProgramFault.TheVariants as fault;
-ghost use Rattle.aud_solo.specs.declared.solo.SoloFault.TheVariants as server;
+ghost use Rattle.aud_solo.specs.declared.serving.ServeFault.TheVariants as server;
 ghost use Rattle.aud_server.specs.Program.{AsksSolo, status, of_kind};
 
 use crate::listen::{ListenFault, listen};
 use crate::options::read_options;
 use aud_solo::ended::run_solo;
-use aud_solo::solo::SoloFault;
+use aud_solo::serving::ServeFault;
 use aud_solo::streams::Stream;
 use clap::error::ErrorKind;
 use clap::{Arg, ArgAction, Command, Error as ClapError};
@@ -31,14 +31,14 @@ pub enum ProgramFault {
     Listen,
     /// What ends the server, or memory is refused before it begins.
     #[error(transparent)]
-    Server(SoloFault),
+    Server(ServeFault),
 }
 
 impl From<AllocError> for ProgramFault {
     ghost from_gives = { λ _ e. e ≡ fault.Server server.Memory };
 
     fn from(_error: AllocError) -> ProgramFault {
-        ProgramFault::Server(SoloFault::Memory)
+        ProgramFault::Server(ServeFault::Memory)
     }
 }
 
@@ -47,7 +47,7 @@ impl From<ClapError> for ProgramFault {
 
     fn from(error: ClapError) -> ProgramFault {
         match error.kind() {
-            ErrorKind::OutOfMemory => ProgramFault::Server(SoloFault::Memory),
+            ErrorKind::OutOfMemory => ProgramFault::Server(ServeFault::Memory),
             _ => ProgramFault::Arguments,
         }
     }
@@ -124,7 +124,7 @@ where
     match listen(rt, rt.alloc(), options) {
         Ok(()) => Ok(0),
         Err(ListenFault::Listen) => Err(ProgramFault::Listen),
-        Err(ListenFault::Memory) => Err(ProgramFault::Server(SoloFault::Memory)),
+        Err(ListenFault::Memory) => Err(ProgramFault::Server(ServeFault::Memory)),
     }
 }
 

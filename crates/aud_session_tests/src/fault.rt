@@ -1,7 +1,7 @@
 // Why the program ends with another status than 0, or does not look at a file.
 
 use crate::session::LineFault;
-use aud_solo::solo::SoloFault;
+use aud_solo::serving::ServeFault;
 use aud_worlds::fault::HallFault;
 use std::alloc::AllocError;
 use std::io;
@@ -20,7 +20,7 @@ pub enum Fault {
     #[error("there is no session")]
     NoSession,
     #[error("a server ended: {0}")]
-    Server(SoloFault),
+    Server(ServeFault),
     #[error("{0}: a line is no call")]
     Call(String),
     /// A call that must succeed was refused.
@@ -64,8 +64,8 @@ impl From<HallFault> for Fault {
     }
 }
 
-impl From<SoloFault> for Fault {
-    fn from(fault: SoloFault) -> Fault {
+impl From<ServeFault> for Fault {
+    fn from(fault: ServeFault) -> Fault {
         Fault::Server(fault)
     }
 }

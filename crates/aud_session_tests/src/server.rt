@@ -1,6 +1,7 @@
 // A server in memory.
 
-use aud_solo::solo::{SoloFault, solo};
+use aud_solo::serving::ServeFault;
+use aud_solo::solo::solo;
 use aud_solo::streams::Stream;
 use std::alloc::Global;
 use std::io;
@@ -23,7 +24,7 @@ impl<'a> Read for Pieces<'a> {
 }
 
 /// What a server writes that reads these bytes in pieces, none longer than `most`.
-pub fn answers(alloc: Global, sent: &[u8], most: usize) -> Result<Vec<u8>, SoloFault> {
+pub fn answers(alloc: Global, sent: &[u8], most: usize) -> Result<Vec<u8>, ServeFault> {
     let mut reader = Stream::new(Pieces { rest: sent, most });
     let mut written = Vec::new(alloc);
     solo(alloc, &mut reader, &mut Stream::new(&mut written))?;

@@ -1,3 +1,3 @@
-pub mod SoloLaws
+pub mod ServingLaws
+pub mod SessionLaws
 pub mod StreamLaws
-pub mod TurnLaws

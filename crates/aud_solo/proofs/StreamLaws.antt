@@ -1,9 +1,10 @@
 -- What is left to read, what stands there, and what is counted, over several calls.
-use Rattle.std.proofs.Common.{◌≡◌, inl, inr, ℕ, ◌+◌, ◌<◌, ◌%◌, ◌^◌, List, [], ◌++◌, Option, Some, None, refl, sym, ◌∙◌, ap, add_assoc, append_assoc, arith}
+use Rattle.std.proofs.Common.{◌≡◌, inl, inr, ℕ, ◌+◌, ◌<◌, ◌%◌, ◌^◌, List, [], ◌++◌, take, drop, Option, Some, None, refl, sym, ◌∙◌, ap, add_assoc, append_assoc, append-nil, subst, arith}
+use Rattle.std.proofs.lemmas.List.{take-append-drop}
 use Rattle.std.proofs.Math.Nat.{mod-add-mod}
 use Rattle.std.specs.Io.KnownBytes.{Appends, Consumes, Keeps}
-use Rattle.aud_solo.specs.Streams.{counted, counted_by}
-use Rattle.aud_solo.specs.Ties.Turns.{CountsTurns}
+use Rattle.aud_solo.specs.Streams.{counted, counted_by, Grows, AppendsFirst, AppendsFront}
+use Rattle.aud_solo.specs.Ties.Serving.{CountsTurns}
 
 -- bytes are written, and then the writer is flushed
 pub kept_behind : (a b c : Option (List ℕ)) (bytes : List ℕ) → Appends a b bytes → Keeps b c → Appends a c bytes
@@ -33,6 +34,46 @@ consumes_kept None b c xs h k = tt
 consumes_kept (Some all) None c xs h k = absurd h
 consumes_kept (Some all) (Some rest) None xs h k = absurd k
 consumes_kept (Some all) (Some rest) (Some end) xs h k = h ∙ ap (λ t. xs ++ t) (sym k)
+
+-- ---- bytes written
+
+pub appends_none : (a : Option (List ℕ)) → Appends a a []
+appends_none None = tt
+appends_none (Some xs) = sym (append-nil xs)
+
+pub appends_more : (a b c : Option (List ℕ)) (xs ys : List ℕ) → Appends a b xs → Appends b c ys → Appends a c (xs ++ ys)
+appends_more None b c xs ys h k = tt
+appends_more (Some old) None c xs ys h k = absurd h
+appends_more (Some old) (Some middle) None xs ys h k = absurd k
+appends_more (Some old) (Some middle) (Some new) xs ys h k = k ∙ (ap (λ zs. zs ++ ys) h ∙ append_assoc old xs ys)
+
+pub grows_none : (a : Option (List ℕ)) → Grows a a
+grows_none a = ([], appends_none a)
+
+pub grows_more : (a b c : Option (List ℕ)) → Grows a b → Grows b c → Grows a c
+grows_more a b c (xs, h) (ys, k) = (xs ++ ys, appends_more a b c xs ys h k)
+
+-- bytes are written, and then others
+pub first_grown : (a b c : Option (List ℕ)) (xs : List ℕ) → Appends a b xs → Grows b c → AppendsFirst a c xs
+first_grown a b c xs h (ys, k) = (ys, appends_more a b c xs ys h k)
+
+pub first_more : (a b c : Option (List ℕ)) (xs : List ℕ) → AppendsFirst a b xs → Grows b c → AppendsFirst a c xs
+first_more a b c xs (ys, h) (zs, k) = (ys ++ zs, subst (Appends a c) (append_assoc xs ys zs) (appends_more a b c (xs ++ ys) zs h k))
+
+-- n bytes more are written
+pub written_more : (old middle new : Option (List ℕ)) (bytes rest : List ℕ) (n : ℕ) → (some : List ℕ) × Appends old middle some × (bytes ≡ some ++ rest) →
+    Appends middle new (take n rest) → (some : List ℕ) × Appends old new some × (bytes ≡ some ++ drop n rest)
+written_more old middle new bytes rest n (some, h, e) k = (
+  some ++ take n rest,
+  appends_more old middle new some (take n rest) h k,
+  e ∙ ap (λ t. some ++ t) (sym (take-append-drop n rest)) ∙ sym (append_assoc some (take n rest) (drop n rest)),
+)
+
+-- behind them a front of the others
+pub written_front : (old middle new : Option (List ℕ)) (bytes rest : List ℕ) → (some : List ℕ) × Appends old middle some × (bytes ≡ some ++ rest) →
+    AppendsFront middle new rest → AppendsFront old new bytes
+written_front old middle new bytes rest (some, h, e) (xs, ys, k, f) =
+    (some ++ xs, ys, appends_more old middle new some xs h k, e ∙ ap (λ t. some ++ t) f ∙ sym (append_assoc some xs ys))
 
 -- ---- counts
 

@@ -14,6 +14,14 @@ counted count = counted_by 1 count
 abbrev pub CountsUpTo : ℕ → ℕ → ℕ → Type 0
 CountsUpTo most old new = (n : ℕ) × (n ≤ most) × (new ≡ counted_by n old)
 
+-- bytes are written, whichever
+abbrev pub Grows : Option (List ℕ) → Option (List ℕ) → Type 0
+Grows old new = (some : List ℕ) × Appends old new some
+
+-- what is written begins with these bytes
+abbrev pub AppendsFirst : Option (List ℕ) → Option (List ℕ) → List ℕ → Type 0
+AppendsFirst old new bytes = (rest : List ℕ) × Appends old new (bytes ++ rest)
+
 -- a front of the bytes is written
 abbrev pub AppendsFront : Option (List ℕ) → Option (List ℕ) → List ℕ → Type 0
 AppendsFront old new bytes = (some rest : List ℕ) × Appends old new some × (bytes ≡ some ++ rest)

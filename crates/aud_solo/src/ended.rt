@@ -1,23 +1,25 @@
 // With which status a program ends that has served one stream of requests.
 
 ghost use Rattle.std.specs.Prelude.{◌≡◌};
-ghost use Rattle.aud_solo.specs.declared.solo.TheConstants.{READS};
+ghost use Rattle.aud_solo.specs.declared.serving.TheConstants.{READS};
 ghost use Rattle.aud_solo.specs.Ended.{EndsAs, fault_status};
-ghost use Rattle.aud_solo.specs.Solo.{Serves, StopsAtQuit, CountsReadsTo, CountsWrites};
+ghost use Rattle.aud_solo.specs.Serving.{Serves, CountsReadsTo, CountsWrites};
+ghost use Rattle.aud_solo.specs.Solo.{TellsAlone, StopsAtQuit};
 ghost use Rattle.aud_solo.specs.Streams.{counted_by, CountsUpTo};
 
-use crate::solo::{SoloFault, solo};
+use crate::serving::ServeFault;
+use crate::solo::solo;
 use crate::streams::{Sink, Source};
 use std::alloc::Global;
 
-impl SoloFault {
+impl ServeFault {
     /// The status with which a program ends for it.
     pub fn status(self) -> u8
         ensures { result ≡ fault_status self }
     {
         match self {
-            SoloFault::Read | SoloFault::Write => 1,
-            SoloFault::Memory => 4,
+            ServeFault::Read | ServeFault::Write => 1,
+            ServeFault::Memory => 4,
         }
     }
 }
@@ -31,7 +33,7 @@ pub fn run_solo<S: Source, T: Sink>(
     writer: &mut T,
 ) -> u8
     ensures ended { EndsAs result (λ served.
-        Serves served (S.remaining reader.old) (S.remaining reader.new)
+        Serves TellsAlone served (S.remaining reader.old) (S.remaining reader.new)
         (T.contents writer.old) (T.contents writer.new)
         × CountsReadsTo (S.calls reader.new ≡ counted_by READS (S.calls reader.old)) served
         (S.failures reader.old) (S.failures reader.new)
@@ -46,7 +48,7 @@ pub fn run_solo<S: Source, T: Sink>(
 }
 
 // Says on the standard error why the program ends, and gives its status.
-fn tell(rt: &impl Eprint, fault: SoloFault) -> u8
+fn tell(rt: &impl Eprint, fault: ServeFault) -> u8
     ensures { result ≡ fault_status fault }
 {
     // Nothing is left to be done where the line cannot be written.

@@ -1,5 +1,5 @@
 -- What a connection with a seat is told for a request, and what becomes of its pass.
-use Rattle.std.specs.Prelude.{◌≡◌, ◌⊎◌, ℕ, List, [], ◌∷◌, ◌++◌, Bool, false, Option, Some, None, Result, Ok, Err}
+use Rattle.std.specs.Prelude.{◌≡◌, ◌⊎◌, ℕ, List, [], ◌∷◌, ◌++◌, Bool, Option, Some, None, Result, Ok, Err}
 use Rattle.aud_text.specs.declared.refusal.Refusal.TheVariants as refusal
 use Rattle.aud_bench.specs.declared.request.Request.{Request}
 use Rattle.aud_bench.specs.declared.request.Request.TheVariants as request
@@ -9,7 +9,7 @@ use Rattle.aud_bench.specs.Alone.{is_quit, alone}
 use Rattle.aud_lines.specs.Text.{answer_text}
 use Rattle.aud_pass.specs.declared.fault.DeskFault.{DeskFault}
 use Rattle.aud_pass.specs.declared.fault.DeskFault.TheVariants as fault
-use Rattle.aud_pass.specs.Passed.{Passed, IsOpened}
+use Rattle.aud_pass.specs.Passed.{Passed}
 use Rattle.aud_pass.specs.Replies.{IsWhole, IsLost, Fits, Overflows}
 use Rattle.aud_connection.specs.Told.{Told, Answered, Faulted, told_text, IsRefused}
 use Rattle.aud_connection.specs.declared.visit.Visit.{Visit}

@@ -3,12 +3,13 @@
 use crate::tests::counted::{Counted, Noted};
 use crate::tests::desks::desk_of;
 use crate::tests::finds;
-use aud_connection::serve::{ServeFault, serve};
+use aud_connection::serve::serve;
 use aud_desk::desk::Desk;
 use aud_desk::gate::Direct;
 use aud_pass::fault::DeskFault;
 use aud_pass::pass::Pass;
 use aud_server::host::Host;
+use aud_solo::serving::ServeFault;
 use aud_solo::streams::{Fused, Stream};
 use std::alloc::{AllocError, Global};
 use std::cell::Cell;

@@ -1,7 +1,8 @@
 // The server where a stream fails.
 
 use crate::tests::finds;
-use aud_solo::solo::{SoloFault, solo};
+use aud_solo::serving::ServeFault;
+use aud_solo::solo::solo;
 use aud_solo::streams::Stream;
 use std::alloc::Global;
 use std::io::{self, ErrorKind, Read, Write};
@@ -80,13 +81,13 @@ impl Write for Flawed<'_> {
 type Row = (
     Option<ErrorKind>,
     Flaw,
-    Result<(), SoloFault>,
+    Result<(), ServeFault>,
     &'static [u8],
 );
 
-const READ: Result<(), SoloFault> = Err(SoloFault::Read);
+const READ: Result<(), ServeFault> = Err(ServeFault::Read);
 
-const WRITE: Result<(), SoloFault> = Err(SoloFault::Write);
+const WRITE: Result<(), ServeFault> = Err(ServeFault::Write);
 
 const ROWS: [Row; 6] = [
     // That a read fails is told from memory that is refused, whatever its error says.

@@ -3,7 +3,7 @@
 use crate::tests::finds;
 use crate::tests::surroundings::{Sent, Surroundings};
 use aud_server::program::{ProgramFault, program, refuse};
-use aud_solo::solo::SoloFault;
+use aud_solo::serving::ServeFault;
 use std::alloc::{AllocError, Global};
 use std::net::{Ipv4Addr, Net, TcpListener, TcpStream};
 use std::process::Abort;
@@ -157,7 +157,7 @@ pub fn words_of(alloc: Global, line: &str, port: u16) -> Result<Vec<String>, All
 #[test]
 fn says_that_memory_is_out(rt: HostRuntime) {
     let surroundings = Surroundings::new(&rt, NOTHING, 0);
-    let status = refuse(&surroundings, ProgramFault::Server(SoloFault::Memory));
+    let status = refuse(&surroundings, ProgramFault::Server(ServeFault::Memory));
     let (_, said) = surroundings.told();
     assert!(rt; status == 4);
     finds(&rt, "a line", &said, b"aud: out of memory\n");

@@ -1,4 +1,5 @@
 use Rattle.std.proofs.Common.{rules, Option, refl, sym, subst}
+use Rattle.std.proofs.lemmas.Result.{IfOk-weaker}
 use Rattle.aud_bench.specs.declared.request.Request.{Request}
 use Rattle.aud_pass.specs.declared.fault.DeskFault.TheVariants.{NotClaimed}
 use Rattle.aud_pass.specs.Passed.{Passed}
@@ -9,19 +10,15 @@ use Rattle.aud_connection.proofs.Texts.{other_refused}
 use Rattle.aud_connection.proofs.visit.admit.Goals as goal
 
 pub returns-in_default : goal.returns-in_default
-returns-in_default g c = record {
-  told =
-      subst (λ (o : Option Passed). Admits c.args.request.now c.in_ok-fault_text.field-0.items o) (sym c.requires)
-      (Faulted NotClaimed, other_refused c.args.request.now c.in_default.not-Seat, c.in_ok-fault_text.ensures);
-  memory = tt;
-}
+returns-in_default g c =
+    IfOk-weaker c.fault_text.result _ _
+    (λ text is. subst (λ (o : Option Passed). Admits c.args.request.now text.items o) (sym c.requires) (Faulted NotClaimed, other_refused c.args.request.now c.in_default.not-Seat, is))
+    c.fault_text.ensures
 
-pub returns-in_ok-fault_text-in-Err : goal.returns-in_ok-fault_text-in-Err
-returns-in_ok-fault_text-in-Err g c =
+pub returns-in-Err : goal.returns-in-Err
+returns-in-Err g c =
     let f = c.in-Err.refused in
-    record {
-      told =
-          subst (λ (o : Option Passed). Admits c.args.request.now c.in_ok-fault_text-in-Err.field-0.items o) (sym c.requires)
-          (Faulted f, subst (λ (r : Request). IsRefused r (Faulted f)) (sym c.in-Seat.is) (f, opens_not c.in-Err.refused c.in-Err.ensures.refused (search rules), refl), c.in_ok-fault_text-in-Err.ensures);
-      memory = tt;
-    }
+    let refused = subst (λ (r : Request). IsRefused r (Faulted f)) (sym c.in-Seat.is) (f, opens_not f c.in-Err.ensures.refused (search rules), refl) in
+    IfOk-weaker c.fault_text-in-Err.result _ _
+    (λ text is. subst (λ (o : Option Passed). Admits c.args.request.now text.items o) (sym c.requires) (Faulted f, refused, is))
+    c.fault_text-in-Err.ensures

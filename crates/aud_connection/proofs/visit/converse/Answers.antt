@@ -1,6 +1,7 @@
 use Rattle.std.specs.Prelude.{slice_get}
 use Rattle.std.proofs.Common.{rules, ◌≡◌, ◌-◌, inl, inr, ◌∷◌, ◌++◌, [], List, length, Some, refl, sym, ap, ◌∙◌, subst}
 use Rattle.std.specs.Option.{option_copied}
+use Rattle.std.proofs.lemmas.Result.{IfOk-weaker}
 use Rattle.aud_text.specs.declared.refusal.Refusal.TheVariants as refusal
 use Rattle.aud_bench.specs.declared.request.Answer.{Answer}
 use Rattle.aud_bench.specs.declared.request.Answer.TheVariants.{Refused}
@@ -12,14 +13,16 @@ use Rattle.aud_connection.proofs.Following.{ends_so}
 use Rattle.aud_connection.proofs.Fronts.{fits_lost, ends_lost}
 use Rattle.aud_connection.proofs.visit.converse.Goals as goal
 
-pub returns-in-Err-Full-clause-told : goal.returns-in-Err-Full-clause-told
-returns-in-Err-Full-clause-told g c =
+pub returns-in-Err-Full : goal.returns-in-Err-Full
+returns-in-Err-Full g c =
     let p : Passed = c.args.pass.now in
     let told = c.in-Err-Full in
     let same : c.submit.new.pass ≡ p = told.ensures.err in
-    let full : Overflows p c.in_ok-request.request = subst (λ f. FitsBy (Some f) p c.in_ok-request.request) told.field-0-is told.ensures.fits in (
+    let full : Overflows p c.in_ok-request.request = subst (λ f. FitsBy (Some f) p c.in_ok-request.request) told.field-0-is told.ensures.fits in
+    IfOk-weaker c.answer_text.result _ _
+    (λ text is. (
       Answered (Refused refusal.JournalFull),
-      c.in_ok-answer_text-in-Err-Full.ensures,
+      is,
       (
         ap (λ (x : Passed). x.limits) same,
         inr (record {
@@ -28,16 +31,25 @@ returns-in-Err-Full-clause-told g c =
           answer = refl;
         }),
       ),
-    )
+    ))
+    c.answer_text.ensures
 
 pub returns-in-Err : goal.returns-in-Err
-returns-in-Err g c = record { told = (Faulted c.in-Err.refused, c.in_ok-fault_text-in-Err.ensures, (fits_lost c.in-Err.refused c.args.pass.now c.in_ok-request.request c.in-Err.ensures.fits (search rules) (search rules), ap (λ (x : Passed). x.limits) c.in-Err.ensures.err)); memory = tt }
+returns-in-Err g c =
+    let lost = fits_lost c.in-Err.refused c.args.pass.now c.in_ok-request.request c.in-Err.ensures.fits (search rules) (search rules) in
+    IfOk-weaker c.fault_text.result _ _
+    (λ text is. (Faulted c.in-Err.refused, is, (lost, ap (λ (x : Passed). x.limits) c.in-Err.ensures.err)))
+    c.fault_text.ensures
 
 pub returns-in-Err-finish : goal.returns-in-Err-finish
-returns-in-Err-finish g c = record { told = (Faulted c.in-Err-finish.refused, c.in_ok-fault_text-in-Err-finish.ensures, (ends_lost c.in-Err-finish.refused c.in-Err-finish.ensures.0 (search rules), c.in-Err-finish.ensures.1 ∙ ap (λ (x : Passed). x.limits) c.in-Ok.ensures.ok)); memory = tt }
+returns-in-Err-finish g c =
+    let lost = ends_lost c.in-Err-finish.refused c.in-Err-finish.ensures.0 (search rules) in
+    IfOk-weaker c.fault_text-in-Err-finish.result _ _
+    (λ text is. (Faulted c.in-Err-finish.refused, is, (lost, c.in-Err-finish.ensures.1 ∙ ap (λ (x : Passed). x.limits) c.in-Ok.ensures.ok)))
+    c.fault_text-in-Err-finish.ensures
 
-pub returns-clause-told : goal.returns-clause-told
-returns-clause-told g c =
+pub returns : goal.returns
+returns g c =
     let p : Passed = c.args.pass.now in
     let q : Passed = c.finish.new.pass in
     let r = c.in_ok-request.request in
@@ -48,9 +60,11 @@ returns-clause-told g c =
     let got : c.got.result.now ≡ alone q.limits q.sent = c.got.ensures.got ∙ whole.all in
     let last : slice_get (alone q.limits q.sent) (length (alone q.limits q.sent) - 1) ≡ Some a =
     ap (λ (xs : List Answer). slice_get xs (length xs - 1)) (sym got) ∙ sym c.last.ensures.value ∙ ap option_copied c.in-Some.is in
-    let end = ends_so (alone q.limits q.sent) a last in (
+    let end = ends_so (alone q.limits q.sent) a last in
+    IfOk-weaker c.answer_text-in-Some.result _ _
+    (λ text is. (
       Answered a,
-      c.in_ok-answer_text-in-Some.ensures,
+      is,
       (
         limits ∙ ap (λ (x : Passed). x.limits) stored,
         inl (record {
@@ -60,4 +74,5 @@ returns-clause-told g c =
           last = end.1;
         }),
       ),
-    )
+    ))
+    c.answer_text-in-Some.ensures

@@ -1,24 +1,8 @@
-use Rattle.std.proofs.Common.{rules, IsErrOf}
-use Rattle.std.specs.Io.KnownBytes.{Appends}
-use Rattle.aud_solo.specs.declared.solo.SoloFault.TheVariants as fault
-use Rattle.aud_solo.specs.Solo.{answers_to}
-use Rattle.aud_solo.proofs.SoloLaws.{cut_short, cut_front}
+use Rattle.aud_solo.proofs.SessionLaws.{fresh, stops_at}
 use Rattle.aud_solo.proofs.solo.solo.Goals as goal
 
-pub returns-in_err-write-clause-serves : goal.returns-in_err-write-clause-serves
-returns-in_err-write-clause-serves g c =
-    let contents = g.T.Sink.contents in
-    let out : IsErrOf c.serve-served.result fault.Memory = search rules in
-    let failed : IsErrOf c.write.result fault.Write = search rules in
-    let (input, taken, some) = c.serve-served.ensures.serves.memory out in
-    let part = cut_front (contents c.args.writer.now) (contents c.serve-served.new.writer) (contents c.write.new.writer) (answers_to input) c.out_of_memory.result.now c.out_of_memory.ensures some (c.write.ensures.write failed) in
-    record { all = search rules; ended = search rules; read = search rules; memory = search rules; write = λ e. (input, taken, part) }
+pub serve-requires : goal.serve-requires
+serve-requires g c = fresh c.new-session.result c.new-session.ensures.limits c.new-session.ensures.asked c.new-session.ensures.over
 
-pub returns-in_ok-write-clause-serves : goal.returns-in_ok-write-clause-serves
-returns-in_ok-write-clause-serves g c =
-    let contents = g.T.Sink.contents in
-    let out : IsErrOf c.serve-served.result fault.Memory = search rules in
-    let whole : Appends (contents c.serve-served.new.writer) (contents c.write.new.writer) c.out_of_memory.result.now = search rules in
-    let (input, taken, some) = c.serve-served.ensures.serves.memory out in
-    let short = cut_short (contents c.args.writer.now) (contents c.serve-served.new.writer) (contents c.write.new.writer) (answers_to input) c.out_of_memory.result.now c.out_of_memory.ensures some whole in
-    record { all = search rules; ended = search rules; read = search rules; memory = λ e. (input, taken, short); write = search rules }
+pub returns-clause-quit : goal.returns-clause-quit
+returns-clause-quit g c = stops_at (g.S.Source.remaining c.args.reader.now) (g.S.Source.remaining c.serve.new.reader) (g.T.Sink.contents c.args.writer.now) (g.T.Sink.contents c.serve.new.writer) c.serve.ensures.stops

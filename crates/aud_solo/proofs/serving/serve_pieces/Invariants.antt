@@ -1,0 +1,16 @@
+use Rattle.std.proofs.Common.{◌≡◌, false}
+use Rattle.aud_solo.specs.Ties.Serving.{HasServed, CountsTurns}
+use Rattle.aud_solo.proofs.serving.serve_pieces.Given as goal
+
+abbrev pub invariant-loop : goal.invariant-loop
+invariant-loop g l =
+    let words = g.A.Attendant.words in
+    let source = g.S.Source in
+    let sink = g.T.Sink in
+    record {
+      served : HasServed words (source.remaining l.fn.reader) (source.remaining l.reader) (sink.contents l.fn.writer) (sink.contents l.writer) l.feed l.attendant;
+      going : words.over l.attendant ≡ false;
+      calls : CountsTurns l.counter (source.calls l.fn.reader) (source.calls l.reader);
+      read : source.failures l.reader ≡ source.failures l.fn.reader;
+      written : sink.failures l.writer ≡ sink.failures l.fn.writer;
+    }

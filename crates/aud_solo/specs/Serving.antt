@@ -1,0 +1,71 @@
+-- What a server on one stream of requests reads and writes, whatever it tells for them. Of a reader and a writer a word takes what was
+-- left in it, or stood there, before the call and after it. Nothing is said where that is not known.
+use Rattle.std.specs.Prelude.{◌≡◌, ◌⊎◌, ℕ, List, ◌++◌, Option, Result, Ok, Err, IfSome, OnOk, IsErrOf}
+use Rattle.std.specs.Io.KnownBytes.{Appends, Consumes}
+use Rattle.aud_text.specs.declared.refusal.Refusal.TheVariants as refusal
+use Rattle.aud_bench.specs.declared.request.Request.{Request}
+use Rattle.aud_bench.specs.declared.request.Answer.TheVariants as answer
+use Rattle.aud_lines.specs.Requests.{requests}
+use Rattle.aud_lines.specs.Text.{answer_text}
+use Rattle.aud_solo.specs.declared.serving.ServeFault.{ServeFault}
+use Rattle.aud_solo.specs.declared.serving.ServeFault.TheVariants as fault
+use Rattle.aud_solo.specs.Streams.{counted, AppendsFront}
+
+-- which text is told for which requests
+abbrev pub Telling : Type 1
+Telling = List Request → List ℕ → Type 0
+
+-- the call has read bytes, of which this holds
+abbrev pub HasRead : Option (List ℕ) → Option (List ℕ) → (List ℕ → Type 0) → Type 0
+HasRead old new holds = (input : List ℕ) × Consumes old new input × holds input
+
+-- what is told for all the requests is written
+abbrev pub WritesAll : Telling → Option (List ℕ) → Option (List ℕ) → List Request → Type 0
+WritesAll tells old new asked = (said : List ℕ) × tells asked said × Appends old new said
+
+-- it is told for some first ones of them
+abbrev pub TellsSome : Telling → List Request → List ℕ → Type 0
+TellsSome tells all said = (some rest : List Request) × (all ≡ some ++ rest) × tells some said
+
+abbrev pub memory_text : List ℕ
+memory_text = answer_text (answer.Refused refusal.OutOfMemory)
+
+-- what is told for some first ones is written, and then that memory is out
+abbrev pub WritesCut : Telling → Option (List ℕ) → Option (List ℕ) → List Request → Type 0
+WritesCut tells old new asked = (said : List ℕ) × TellsSome tells asked said × Appends old new (said ++ memory_text)
+
+-- a front of what is told for some first ones is written, or of that and then that memory is out; it may end within an answer
+abbrev pub WritesPart : Telling → Option (List ℕ) → Option (List ℕ) → List Request → Type 0
+WritesPart tells old new asked = (said : List ℕ) × TellsSome tells asked said × (AppendsFront old new said ⊎ AppendsFront old new (said ++ memory_text))
+
+-- The call serves the requests of a reader, and writes to a writer. Where it answers Ok, all that is told for what was left to read is
+-- written, and that is what is told for what was read: what comes behind it is told nothing. Where a read failed, it is all that is told
+-- for what was read. Where memory is refused, it is what is told for some first requests of what was read, and then that memory is out;
+-- where a write failed, a front of such a text.
+pub record Serves {A : Type 0} (tells : Telling) (result : Result A ServeFault) (left remaining before after : Option (List ℕ)) : Type 0 where
+  pub all : OnOk result (IfSome left (λ input. WritesAll tells before after (requests input)))
+  pub ended : OnOk result (HasRead left remaining (λ input. WritesAll tells before after (requests input)))
+  pub read : IsErrOf result fault.Read → HasRead left remaining (λ input. WritesAll tells before after (requests input))
+  pub memory : IsErrOf result fault.Memory → HasRead left remaining (λ input. WritesCut tells before after (requests input))
+  pub write : IsErrOf result fault.Write → HasRead left remaining (λ input. WritesPart tells before after (requests input))
+
+-- The failures of a reader before and after a call that stops at the first one: one more where it answers Read, else as before.
+abbrev pub CountsReads : {A : Type 0} → Result A ServeFault → ℕ → ℕ → Type 0
+CountsReads (Ok x) before after = after ≡ before
+CountsReads (Err fault.Read) before after = after ≡ counted before
+CountsReads (Err fault.Write) before after = after ≡ before
+CountsReads (Err fault.Memory) before after = after ≡ before
+
+-- the same of a call that may also answer Read because its reads are used up
+abbrev pub CountsReadsTo : {A : Type 0} → Type 0 → Result A ServeFault → ℕ → ℕ → Type 0
+CountsReadsTo used (Ok x) before after = after ≡ before
+CountsReadsTo used (Err fault.Read) before after = (after ≡ counted before) ⊎ ((after ≡ before) × used)
+CountsReadsTo used (Err fault.Write) before after = after ≡ before
+CountsReadsTo used (Err fault.Memory) before after = after ≡ before
+
+-- the failures of a writer before and after a call that stops at the first one: one more where it answers Write, else as before
+abbrev pub CountsWrites : {A : Type 0} → Result A ServeFault → ℕ → ℕ → Type 0
+CountsWrites (Ok x) before after = after ≡ before
+CountsWrites (Err fault.Read) before after = after ≡ before
+CountsWrites (Err fault.Write) before after = after ≡ counted before
+CountsWrites (Err fault.Memory) before after = after ≡ before
