@@ -2,6 +2,7 @@ pub mod Alternatives
 pub mod Choosing
 pub mod Chosen
 pub mod Delays
+pub mod Listing
 pub mod Moving
 pub mod Resting
 pub mod Soonest

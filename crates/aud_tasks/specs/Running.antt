@@ -65,12 +65,10 @@ pub record RunsFirst (plan : Plan) (code : Flat) (limits : Limits) (n : ℕ) (ol
   pub within : taken.steps ≤ n
   pub few : taken.ticks ≤ taken.steps * most_ticks plan code
 
--- at most n steps that a run does next, by choices or not
-pub record RunsChosen (plan : Plan) (code : Flat) (limits : Limits) (n : ℕ) (old new : All Spot) (taken : Taken) : Type 0 where
-  pub leads : RunsOn plan code limits taken.steps old new
-  pub steps : taken.steps + old.steps ≡ new.steps
-  pub within : taken.steps ≤ n
-  pub few : taken.ticks ≤ taken.steps * most_ticks plan code
+-- at least one of at most n steps that come next; none where no move is enabled
+abbrev pub RunsNext : Plan → Flat → Limits → ℕ → All Spot → All Spot → Option Taken → Type 0
+RunsNext plan code limits n old new None = (moves_at plan (flat_controls plan code) old ≡ []) × (new ≡ old)
+RunsNext plan code limits n old new (Some taken) = RunsFirst plan code limits n old new taken × (0 < taken.steps)
 
 -- no choice is used up for a move: there are no others, or no choice waits
 abbrev pub IsUnchosen : List Move → List ℕ → Type 0
@@ -119,9 +117,18 @@ BeginsAlone plan code n c = (k : ℕ) (t : TaskAt Spot) → slice_get c.tasks k 
 abbrev pub HindersNone : Plan → Flat → ℕ → All Spot → Type 0
 HindersNone plan code n c = AreIdle c ⊎ BeginsAlone plan code n c
 
--- each task that has a move runs as usual, and what comes next of it is simple
+-- the task of a number runs as usual and what comes next of it is simple, if it has a move
+abbrev pub ActsSimply : Plan → Flat → ℕ → All Spot → Type 0
+ActsSimply plan code n c = has_some (moves_of plan code n c) ≡ true → IsPlain (own_of n c) × IsSimple (coming_in plan code n c)
+
+-- so does each
 abbrev pub AreSimple : Plan → Flat → All Spot → Type 0
-AreSimple plan code c = (k : ℕ) → has_some (moves_of plan code k c) ≡ true → IsPlain (own_of k c) × IsSimple (coming_in plan code k c)
+AreSimple plan code c = (n : ℕ) → ActsSimply plan code n c
+
+-- a move is the only one of its task
+pub record IsOnly (plan : Plan) (code : Flat) (m : Move) (c : All Spot) : Type 0 where
+  pub own : m ≡ own_move m.task
+  pub some : has_some (moves_of plan code m.task c) ≡ true
 
 -- no task that runs is to begin an action of an object
 abbrev pub BeginsNone : Plan → Flat → All Spot → Type 0

@@ -1,6 +1,6 @@
 // What can happen next.
 
-ghost use Rattle.std.specs.Prelude.{◌≡◌, ◌<◌, ◌-◌, ◌^◌, ℕ, [], length, not, ◌||◌, IfNone, IfOk, IfSome, IsTrue, OnOk, slice_get, true};
+ghost use Rattle.std.specs.Prelude.{◌≡◌, ◌<◌, ◌-◌, ◌^◌, ℕ, [], length, not, ◌||◌, ◌++◌, IfNone, IfOk, IfSome, IsTrue, OnOk, slice_get, true};
 ghost use Rattle.aud_typed.specs.Tree.{Plan};
 ghost use Rattle.aud_typed.specs.Ties.View.{plain_program};
 ghost use Rattle.aud_meaning.specs.Parts.{is_terminated, own_of};
@@ -10,6 +10,7 @@ ghost use Rattle.aud_code.specs.Flat.{barrier_at, flat_controls, Flat};
 ghost use Rattle.aud_tasks.specs.Enabled.{enabled_moves};
 ghost use Rattle.aud_code.specs.Starts.{AreSpots};
 ghost use Rattle.aud_tasks.specs.Choices.{ComesTo};
+ghost use Rattle.aud_tasks.specs.Running.{ActsSimply, AreSimple};
 ghost use Rattle.aud_tasks.specs.Moving.{alone_if, has_some, moves_behind, moves_of, picked, IsNextMover, IsSimple};
 ghost use Rattle.aud_state.specs.Reads.{IsPlain};
 ghost use Rattle.aud_tasks.specs.Turning.{coming_in};
@@ -47,7 +48,8 @@ pub fn moves(state: &State, alloc: Global, compiled: Compiled<'_>) -> Result<Vec
     Ok(moves)
 }
 
-/// Puts them in the place of what the list had.
+/// Puts them in the place of what the list had, and tells whether each task that has some acts simply. It may be so in
+/// other cases, too.
 ///
 /// # Errors
 ///
@@ -58,23 +60,54 @@ pub(crate) fn list_moves(
     compiled: Compiled<'_>,
     operands: &mut Operands,
     moves: &mut Vec<Move>,
-) -> Result<(), AllocError>
+) -> Result<bool, AllocError>
     requires { AreSpots compiled.code.now.lines state.now.tasks }
-    ensures { OnOk result (let plan = (plain_program compiled.entry.program.now).plan in
+    ensures listed { OnOk result (let plan = (plain_program compiled.entry.program.now).plan in
         moves.new.items ≡ moves_at plan (flat_controls plan compiled.entry.code.now) state.now) }
+    ensures simple { IfOk result (λ all. IsTrue all → AreSimple (plain_program compiled.entry.program.now).plan
+        compiled.entry.code.now state.now) }
 {
     moves.clear();
     if !may_move(state) {
-        return Ok(());
+        return Ok(false);
     }
-    let clock = state.clock();
+    let mut are_simple = true;
     let mut task = state.next_awake(0);
     while task < state.len() {
-        let enabled = enabled_of(state, alloc, compiled, operands, task)?;
-        list(&enabled, task, clock, moves)?;
+        let is_simple = list_task(state, alloc, compiled, operands, task, moves)?;
+        are_simple = are_simple && is_simple;
         task = state.next_awake(task + 1);
     }
-    Ok(())
+    Ok(are_simple)
+}
+
+// Puts those of one task behind others, and tells whether it acts simply or has none.
+fn list_task(
+    state: &State,
+    alloc: Global,
+    compiled: Compiled<'_>,
+    operands: &mut Operands,
+    task: usize,
+    moves: &mut Vec<Move>,
+) -> Result<bool, AllocError>
+    requires spots { AreSpots compiled.code.now.lines state.now.tasks }
+    requires within { task < length state.now.tasks }
+    ensures listed { OnOk result (moves.new.items ≡ moves.old.items
+        ++ moves_of (plain_program compiled.entry.program.now).plan compiled.entry.code.now task state.now) }
+    ensures simple { IfOk result (λ is. IsTrue is → ActsSimply (plain_program compiled.entry.program.now).plan
+        compiled.entry.code.now task state.now) }
+{
+    let clock = state.clock();
+    if acts_simply(state, compiled.code, task) {
+        list(&Enabled::One, task, clock, moves)?;
+        return Ok(true);
+    }
+    let enabled = enabled_of(state, alloc, compiled, operands, task)?;
+    if count(&enabled, task, clock) == 0 {
+        return Ok(true);
+    }
+    list(&enabled, task, clock, moves)?;
+    Ok(false)
 }
 
 /// The move of this index, counted from 0.
