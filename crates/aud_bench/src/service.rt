@@ -38,7 +38,7 @@ pub struct Served {
 }
 
 /// Does at most this many units of work on a request, of which the units of `progress` are done already. A RUN costs its
-/// steps, at least one, and any other request one.
+/// steps, at least one, and any other request one. Of an ADVANCE for which the clock has no room nothing is promised.
 pub fn serve(
     alloc: Global,
     limits: Limits,
@@ -73,7 +73,7 @@ pub fn serve(
     }
 }
 
-/// Answers a request at once, whatever it costs.
+/// Answers a request at once, whatever it costs; of an ADVANCE as `serve` does.
 pub fn answer(
     alloc: Global,
     limits: Limits,

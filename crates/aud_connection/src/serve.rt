@@ -45,9 +45,9 @@ impl<R: Wait> Attendant for Visitor<'_, R> {
     }
 }
 
-/// Serves a connection at a desk: what is told for a request is written before the next one is looked at, and before more
-/// is read. Before a SEAT takes a seat every other request is refused; from then on the answers are those of a private
-/// server. Behind a QUIT of a connection with a seat, at the end of what is read and at a fault the seat is freed.
+/// Serves a connection at a desk, turn by turn as `serving::serve` does. Before a SEAT takes a seat every other request is
+/// refused; from then on the answers are those of a private server, up to the desk's first refusal. Behind a QUIT of a
+/// connection with a seat, at the end of what is read and at a fault it leaves its seat, which no clause says.
 ///
 /// # Errors
 ///

@@ -81,13 +81,13 @@ impl Desk {
         }
     }
 
-    /// Sends a request. Where no worker can be told, the work is done before this returns.
+    /// Sends a request. Where no worker can be told, the work is done before this returns; no clause says so.
     ///
     /// # Errors
     ///
     /// The first that holds of: the desk has no such seat; it is not claimed, or a QUIT was sent; what the pass has sent is not
     /// what is stored there; the request does not fit behind the others; memory is refused, or was to the bench of the seat. The
-    /// pass and the seat are as they were.
+    /// pass is as it was, and by `submit_in` the seat.
     pub fn submit<R: Wait>(
         &self,
         rt: &R,
@@ -143,7 +143,8 @@ impl Desk {
         unreachable!()
     }
 
-    /// Works on parcels through a gate, until the desk has stopped and none is left.
+    /// Works on parcels through a gate, until the desk has stopped and none is left. Nothing is promised of it but that it is
+    /// safe.
     pub fn work<R: Wait, G: Gate>(&self, rt: &R, alloc: Global, gate: &G) {
         for _ in rt.forever() {
             let Ok(mut parcel) = self.parcels.recv(rt) else {
@@ -156,7 +157,8 @@ impl Desk {
         unreachable!()
     }
 
-    /// From now on no worker is told of parcels: whoever sends one out works it off. No memory is taken.
+    /// From now on no worker is told of parcels: whoever sends one out works it off. No memory is taken. Nothing is promised
+    /// of it but that it is safe.
     pub fn stop<R: Wait>(&self, rt: &R) {
         let _ = self.orders.lock(rt).take();
     }

@@ -21,8 +21,8 @@ use std::marker::Model;
 /// Seats, numbered from 1, each with limits of its own.
 ///
 /// A session lasts from a claim to the next free. Its requests are stored, and its bench goes out as a parcel, on which anybody
-/// may work; once that is checked in, its answers can be collected. The answers of each session are those of a private server
-/// to its own requests, whatever else happens in the hall.
+/// may work; once that is checked in, its answers can be collected. The answers of each session are a front of those of a
+/// private server to its own requests, whatever else happens in the hall; where memory is refused, its last answer may say so.
 #[derive(Drop)]
 pub struct Hall {
     places: Vec<Place>,

@@ -8,7 +8,7 @@ use aud_hall::fault::HallFault;
 use std::alloc::AllocError;
 use thiserror::Error;
 
-/// Why a call of the desk is refused. Neither the pass nor its seat has changed then.
+/// Why a call of the desk is refused. The pass has not changed then, nor has its seat in the section that refuses.
 #[derive(Clone, Copy, PartialEq, Eq, Debug, Error)]
 pub enum DeskFault {
     /// The desk has no seat of this number.

@@ -25,7 +25,7 @@ impl ServeFault {
 }
 
 /// Serves the requests of a reader as `solo` does, and gives the status with which the program ends: 0 only where `solo`
-/// answers Ok. Where it is another, one line on the standard error says why.
+/// answers Ok. Where it is another, one line on the standard error says why, which no clause says.
 pub fn run_solo<S: Source, T: Sink>(
     rt: &impl Eprint,
     alloc: Global,

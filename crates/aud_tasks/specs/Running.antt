@@ -15,7 +15,6 @@ use Rattle.aud_code.specs.declared.line.Last.{Last}
 use Rattle.aud_code.specs.declared.line.Last.TheVariants.{Ends, Leaves}
 use Rattle.aud_code.specs.Flat.{Flat, asked_at, coming_at, flat_controls}
 use Rattle.aud_code.specs.View.{EndsPlainly}
-use Rattle.aud_expr.specs.Size.{size}
 use Rattle.aud_over.specs.Over.{forgotten}
 use Rattle.aud_tasks.specs.declared.run.Ran.{Ran}
 use Rattle.aud_state.specs.declared.fast.Taken.{Taken}
@@ -65,7 +64,7 @@ pub record RunsFirst (plan : Plan) (code : Flat) (limits : Limits) (n : ℕ) (ol
   pub within : taken.steps ≤ n
   pub few : taken.ticks ≤ taken.steps * most_ticks plan code
 
--- at least one of at most n steps that come next; none where no move is enabled
+-- the steps that come next: at least one, at most n; none where no move is enabled
 abbrev pub RunsNext : Plan → Flat → Limits → ℕ → All Spot → All Spot → Option Taken → Type 0
 RunsNext plan code limits n old new None = (moves_at plan (flat_controls plan code) old ≡ []) × (new ≡ old)
 RunsNext plan code limits n old new (Some taken) = RunsFirst plan code limits n old new taken × (0 < taken.steps)
@@ -125,8 +124,8 @@ ActsSimply plan code n c = has_some (moves_of plan code n c) ≡ true → IsPlai
 abbrev pub AreSimple : Plan → Flat → All Spot → Type 0
 AreSimple plan code c = (n : ℕ) → ActsSimply plan code n c
 
--- a move is the only one of its task
-pub record IsOnly (plan : Plan) (code : Flat) (m : Move) (c : All Spot) : Type 0 where
+-- a move is the step of its task's own statements, and that task has a move
+pub record IsOwnMove (plan : Plan) (code : Flat) (m : Move) (c : All Spot) : Type 0 where
   pub own : m ≡ own_move m.task
   pub some : has_some (moves_of plan code m.task c) ≡ true
 

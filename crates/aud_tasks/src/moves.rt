@@ -48,8 +48,8 @@ pub fn moves(state: &State, alloc: Global, compiled: Compiled<'_>) -> Result<Vec
     Ok(moves)
 }
 
-/// Puts them in the place of what the list had, and tells whether each task that has some acts simply. It may be so in
-/// other cases, too.
+/// Puts them in the place of what the list had, and tells whether each task that has some acts simply. Where no move is
+/// enabled since the program has ended or its output is full, it tells that this is not so.
 ///
 /// # Errors
 ///
@@ -81,7 +81,7 @@ pub(crate) fn list_moves(
     Ok(are_simple)
 }
 
-// Puts those of one task behind others, and tells whether it acts simply or has none.
+// Puts those of one task at the end of the list, and tells whether it acts simply or has none.
 fn list_task(
     state: &State,
     alloc: Global,
@@ -103,11 +103,9 @@ fn list_task(
         return Ok(true);
     }
     let enabled = enabled_of(state, alloc, compiled, operands, task)?;
-    if count(&enabled, task, clock) == 0 {
-        return Ok(true);
-    }
+    let before = moves.len();
     list(&enabled, task, clock, moves)?;
-    Ok(false)
+    Ok(moves.len() == before)
 }
 
 /// The move of this index, counted from 0.
@@ -144,6 +142,13 @@ pub(crate) fn nth_move(
         task = state.next_awake(task + 1);
     }
     Ok(None)
+}
+
+/// The one of this index in a list.
+pub(crate) fn move_at(moves: &[Move], index: usize) -> Option<Move>
+    ensures { result ≡ slice_get moves.now index }
+{
+    moves.get(index).copied()
 }
 
 /// The first task from this number on that has a move.

@@ -4,7 +4,6 @@
 // and what it says of it. The tests stand here for all crates, since a crate that has tests of its own is proved twice.
 
 mod ahead;
-mod answers;
 mod benches;
 mod choosing;
 mod connections;

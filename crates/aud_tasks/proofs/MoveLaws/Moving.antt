@@ -15,7 +15,7 @@ use Rattle.aud_meaning.specs.declared.state.State.TheVariants as state
 use Rattle.aud_meaning.specs.Configuration.{Call, Own, Shared, TaskAt, All}
 use Rattle.aud_meaning.specs.Control.{Coming, Seen, simply, ending, selecting, calling, starting}
 use Rattle.aud_meaning.specs.Parts.{any, body_master, depends, facts_in, in_the_way, is_queued, is_terminated, may_terminate, nobody, object_of, open_alternatives, own_of, owns, queue, Closable}
-use Rattle.aud_meaning.specs.Run.{acting, acting_moves, alternatives_of, call_time, call_time_by, construct_left, each_or_one, end_moves, has_ended, has_queue, master_left_by, moves, moves_at, moves_by, moves_from, only, own_move, owner_idle, seen, seen_from, serve_moves, some_move, state_at, state_by, times_from, turn_at, turn_moves, turn_times, waiting_by}
+use Rattle.aud_meaning.specs.Run.{acting, acting_moves, alternatives_of, call_time, call_time_by, construct_left, each_or_one, end_moves, has_ended, has_queue, master_left_by, moves_at, moves_by, moves_from, only, own_move, owner_idle, seen, seen_from, serve_moves, some_move, state_at, state_by, times_from, turn_at, turn_moves, turn_times, waiting_by}
 use Rattle.aud_meaning.specs.Tasks.{barrier_of, eligible, eligible_from, eligible_if, entries_of}
 use Rattle.aud_code.specs.Places.{Spot}
 use Rattle.aud_code.specs.Flat.{Flat, barrier_at, flat_controls}
@@ -179,9 +179,6 @@ module _ (plan : Plan) (code : Flat) where
     pub state_as : (e cut : Bool) → ended ≡ e → c.shared.cut ≡ cut → state_at plan (flat_controls plan code) c ≡ state_is e cut
     state_as e cut is full =
         ap (λ b. state_is b c.shared.cut) (ended_seen c.tasks (owns c.tasks) c.shared ∙ is) ∙ ap (state_is e) full
-
-    pub moves_same : ended ≡ false → c.shared.cut ≡ false → moves plan (barrier_at code) d ≡ moves_at plan (flat_controls plan code) c
-    moves_same is full = refl
 
     some_by : (ms : List Move) (m : Move) → slice_get ms 0 ≡ Some m → some_move plan (barrier_at code) ms d ≡ state.More
     some_by [] m is = absurd cc

@@ -9,7 +9,6 @@ use Rattle.aud_code.specs.Flat.{Flat, coming_at}
 use Rattle.aud_code.specs.Places.{Spot}
 use Rattle.aud_state.specs.Reads.{coming_by}
 use Rattle.aud_tasks.specs.Choices.{IsNoStart}
-use Rattle.aud_tasks.specs.Running as running
 use Rattle.aud_tasks.specs.Running.{AreIdle, BeginsAlone}
 use Rattle.aud_tasks.specs.Turning.{coming_in}
 use Rattle.aud_tasks.proofs.StepLaws.Stepping.{own_there}
@@ -65,7 +64,3 @@ module _ (plan : Plan) (code : Flat) (task : ℕ) (c : All Spot) where
 
   pub all_begin : (n : ℕ) → length c.tasks ≤ n → BeginsAloneBelow n → BeginsAlone plan code task c
   all_begin n past below k t at = let there = within c.tasks k t at in below k (omega (arith, past, there)) t at
-
--- none at all is to begin one, where only one of no task may
-pub none_at_all : (plan : Plan) (code : Flat) (c : All Spot) → BeginsAlone plan code (length c.tasks) c → running.BeginsNone plan code c
-none_at_all plan code c alone k t at = alone k t at (λ is. let there = within plan code 0 c c.tasks k t at in omega (arith, is, there))

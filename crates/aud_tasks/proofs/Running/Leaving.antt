@@ -1,7 +1,6 @@
 -- A task that is to leave a block or procedure, as memory tells it.
-use Rattle.std.proofs.Common.{◌≡◌, ℕ, [], Option, None, Some, Bool, true, false, refl, ap, sym, subst, ◌∙◌, slice_get}
+use Rattle.std.proofs.Common.{◌≡◌, ℕ, [], None, Some, true, false, refl, ap, sym, subst, ◌∙◌, slice_get}
 use Rattle.aud_typed.specs.Tree.{Plan}
-use Rattle.aud_meaning.specs.declared.state.Pending.{Pending}
 use Rattle.aud_meaning.specs.Configuration.{Own, TaskAt, All}
 use Rattle.aud_meaning.specs.Control.{Coming, Scene, ending, ends}
 use Rattle.aud_meaning.specs.Evaluation.{Sight}

@@ -18,8 +18,7 @@ use Rattle.aud_meaning.specs.Evaluation.{Sight}
 use Rattle.aud_meaning.specs.Control.{Seen, Coming, simply, ending, selecting, calling, starting}
 use Rattle.aud_meaning.specs.Parts.{nobody, in_the_way, is_idle, object_of, own_of, call_of, is_queued, owns, any, depends, may_terminate, Closable, body_master, in_action, open_alternatives}
 use Rattle.aud_meaning.specs.Tasks.{eligible}
-use Rattle.aud_meaning.specs.Run.{Turn, own_move, only, owner_idle, call_time_by, call_time, end_moves, each_or_one, alternatives_of, has_queue, acting_moves, master_left_by, construct_left, is_leave, is_bound, Deferred, at_once, serve_moves, usual, under_way, turn_by, turn, turn_at, turn_moves, moves_from, has_ended, moves_by, moves}
-use Rattle.aud_tasks.specs.Running.{is_acting}
+use Rattle.aud_meaning.specs.Run.{Turn, own_move, only, owner_idle, call_time_by, call_time, end_moves, each_or_one, alternatives_of, has_queue, acting_moves, master_left_by, construct_left, is_leave, is_bound, Deferred, at_once, serve_moves, usual, under_way, turn_by, turn, turn_moves, moves_from, has_ended, moves_by, moves}
 use Rattle.aud_tasks.proofs.Running.Whose.{AreOf, moves_of}
 
 -- the same in both, or of a task of which it may differ
@@ -68,7 +67,6 @@ module _ (plan : Plan) (barrier : ℕ → Sight → Result Bool Raise) (d e : Al
   pub record MovedTask (n : ℕ) (t u : TaskAt Seen) : Type 0 where
     pub own : bare t.own ≡ bare u.own
     pub moves : turn_moves plan barrier (turn plan barrier n t d) n d ≡ turn_moves plan barrier (turn plan barrier n u e) n e
-    pub acts : is_acting (turn plan barrier n t d) ≡ is_acting (turn plan barrier n u e)
 
   -- from a number on
   abbrev pub AlikeTasks : (Status → Type 0) → (Served : Type 0) → (Other Moved : ℕ → Type 0) → ℕ → List (TaskAt Seen) → List (TaskAt Seen) → Type 0
@@ -272,10 +270,9 @@ module _ (plan : Plan) (barrier : ℕ → Sight → Result Bool Raise) (Free : S
   abbrev with_own : Seen → Own → TaskAt Seen
   with_own x own = record { control = x; own = own }
 
-  -- both give the same moves, or some, and its own statements go on in both or in neither
-  record SameTurn (Other : Type 0) (n : ℕ) (u v : Turn) : Type 0 where
-    moves : AgreeMoves Other (turn_moves plan barrier u n d) (turn_moves plan barrier v n e)
-    acts : is_acting u ≡ is_acting v
+  -- both give the same moves, or some
+  abbrev SameTurn : (Other : Type 0) (n : ℕ) (u v : Turn) → Type 0
+  SameTurn Other n u v = AgreeMoves Other (turn_moves plan barrier u n d) (turn_moves plan barrier v n e)
 
   module _ (Other : Type 0) (n : ℕ) (x y : Seen) (o : Own) (unmoved : Moved n → ⊥) (alike : AreAlike (Free o.status) Other x.coming y.coming) (served : ServesSame Served Other o.serving) where
     leave_there : (a b : Coming) → AreAlike (Free o.status) Other a b → is_leave a o ≡ is_leave b o
@@ -303,26 +300,23 @@ module _ (plan : Plan) (barrier : ℕ → Sight → Result Bool Raise) (Free : S
     SameUsual serving status = SameTurn Other n (usual plan barrier serving status n (with_own x o) d) (usual plan barrier serving status n (with_own y o) e)
 
     serving_there : (s : Serving) (status : Status) → ServesSame Served Other (Some s) → SameUsual (Some s) status
-    serving_there s status (stays same) = record { moves = same_moves (ap (λ r. serve_moves plan barrier r n) (serves same s.object)); acts = refl }
-    serving_there s status (differs other) = record {
-      moves = some_moves other (serve_some (eligible plan barrier s.object d) n) (serve_some (eligible plan barrier s.object e) n);
-      acts = refl;
-    }
+    serving_there s status (stays same) = same_moves (ap (λ r. serve_moves plan barrier r n) (serves same s.object))
+    serving_there s status (differs other) = some_moves other (serve_some (eligible plan barrier s.object d) n) (serve_some (eligible plan barrier s.object e) n)
 
     usual_there : (serving : Option Serving) (status : Status) → AreAlike (Free status) Other x.coming y.coming → ServesSame Served Other serving → SameUsual serving status
     usual_there (Some s) status h same = serving_there s status same
-    usual_there None Created h same = record { moves = same_moves refl; acts = refl }
-    usual_there None Running h same = record { moves = alike_there Other x.coming y.coming n unmoved h; acts = refl }
-    usual_there None Activating h same = record { moves = same_moves refl; acts = refl }
-    usual_there None Accepting h same = record { moves = same_moves refl; acts = refl }
-    usual_there None Delaying h same = record { moves = same_moves refl; acts = refl }
-    usual_there None Calling h same = record { moves = same_moves (ap (λ times. map (λ time. own_move n) (filter (λ time. nat_le time d.clock) times)) (times_there (call_of o.call d))); acts = refl }
-    usual_there None Completed h same = record { moves = same_moves refl; acts = refl }
-    usual_there None Terminated h same = record { moves = same_moves refl; acts = refl }
+    usual_there None Created h same = same_moves refl
+    usual_there None Running h same = alike_there Other x.coming y.coming n unmoved h
+    usual_there None Activating h same = same_moves refl
+    usual_there None Accepting h same = same_moves refl
+    usual_there None Delaying h same = same_moves refl
+    usual_there None Calling h same = same_moves (ap (λ times. map (λ time. own_move n) (filter (λ time. nat_le time d.clock) times)) (times_there (call_of o.call d)))
+    usual_there None Completed h same = same_moves refl
+    usual_there None Terminated h same = same_moves refl
 
     once_there : (withdraw : Option ℕ) → SameTurn Other n (at_once plan barrier withdraw) (at_once plan barrier withdraw)
-    once_there None = record { moves = same_moves refl; acts = refl }
-    once_there (Some object) = record { moves = same_moves refl; acts = refl }
+    once_there None = same_moves refl
+    once_there (Some object) = same_moves refl
 
     under_there : (abnormal : Bool) → SameTurn Other n (under_way plan barrier abnormal n (with_own x o) d) (under_way plan barrier abnormal n (with_own y o) e)
     under_there false = usual_there o.serving o.status alike served
@@ -335,14 +329,14 @@ module _ (plan : Plan) (barrier : ℕ → Sight → Result Bool Raise) (Free : S
         by false true f g h = absurd cc
 
     turn_there : (status : Status) → SameTurn Other n (turn_by plan barrier status n (with_own x o) d) (turn_by plan barrier status n (with_own y o) e)
-    turn_there Created = record { moves = same_moves refl; acts = refl }
+    turn_there Created = same_moves refl
     turn_there Running = under_there o.abnormal
     turn_there Activating = under_there o.abnormal
     turn_there Accepting = under_there o.abnormal
     turn_there Delaying = under_there o.abnormal
     turn_there Calling = under_there o.abnormal
-    turn_there Completed = record { moves = same_moves (ap (λ os. only plan barrier (Closable (outermost os) d) n) (opened_there n unmoved) ∙ ap (λ b. only plan barrier b n) (closable (body_master (own_of n e)))); acts = refl }
-    turn_there Terminated = record { moves = same_moves refl; acts = refl }
+    turn_there Completed = same_moves (ap (λ os. only plan barrier (Closable (outermost os) d) n) (opened_there n unmoved) ∙ ap (λ b. only plan barrier b n) (closable (body_master (own_of n e))))
+    turn_there Terminated = same_moves refl
 
   abbrev AlikeOrMoved : (Other : Type 0) (n : ℕ) (t u : TaskAt Seen) → Type 0
   AlikeOrMoved Other n t u = AlikeTask Free Served Other (Moved n) t u ⊎ (Moved n × MovedTask plan barrier d e n t u)
@@ -350,24 +344,12 @@ module _ (plan : Plan) (barrier : ℕ → Sight → Result Bool Raise) (Free : S
   abbrev Alikes : (Other : ℕ → Type 0) (n : ℕ) (ts vs : List (TaskAt Seen)) → Type 0
   Alikes Other n ts vs = AlikeTasks plan barrier d e Free Served Other Moved n ts vs
 
-  task_there : (Other : Type 0) (n : ℕ) (t u : TaskAt Seen) → AlikeOrMoved Other n t u → SameTurn Other n (turn plan barrier n t d) (turn plan barrier n u e)
-  task_there Other n t u (inl h) =
+  -- those of a task, in both
+  moves_of_task : (Other : Type 0) (n : ℕ) (t u : TaskAt Seen) → AlikeOrMoved Other n t u → SameTurn Other n (turn plan barrier n t d) (turn plan barrier n u e)
+  moves_of_task Other n t u (inl h) =
       subst (λ (o : Own). SameTurn Other n (turn plan barrier n t d) (turn plan barrier n (with_own u.control o) e)) h.own
       (turn_there Other n t.control u.control t.own h.unmoved h.coming h.serving t.own.status)
-  task_there Other n t u (inr h) = record { moves = same_moves h.1.moves; acts = h.1.acts }
-
-  acts_there : (Other : ℕ → Type 0) (n k i : ℕ) (ts vs : List (TaskAt Seen)) → k + i ≡ n → Alikes Other k ts vs → is_acting (turn_at plan barrier (slice_get ts i) n d) ≡ is_acting (turn_at plan barrier (slice_get vs i) n e)
-  acts_there Other n k i [] [] at h = refl
-  acts_there Other n k i [] (v ∷ vs) at h = absurd h
-  acts_there Other n k i (t ∷ ts) [] at h = absurd h
-  acts_there Other n k zero (t ∷ ts) (v ∷ vs) at h =
-      let same : k ≡ n = omega (arith, at) in
-      (task_there (Other k) n t v (subst (λ m. AlikeOrMoved (Other k) m t v) same h.0)).acts
-  acts_there Other n k (suc i) (t ∷ ts) (v ∷ vs) at h = acts_there Other n (suc k) i ts vs (omega (arith, at)) h.1
-
-  -- those of a task, in both
-  moves_of_task : (Other : ℕ → Type 0) (n : ℕ) (t v : TaskAt Seen) → AlikeOrMoved (Other n) n t v → AgreeMoves (Other n) (turn_moves plan barrier (turn plan barrier n t d) n d) (turn_moves plan barrier (turn plan barrier n v e) n e)
-  moves_of_task Other n t v h = (task_there (Other n) n t v h).moves
+  moves_of_task Other n t u (inr h) = same_moves h.1.moves
 
   -- where they differ of no task
   all_there : (n : ℕ) (ts vs : List (TaskAt Seen)) → Alikes (λ k. ⊥) n ts vs → moves_from plan barrier n ts d ≡ moves_from plan barrier n vs e
@@ -375,12 +357,12 @@ module _ (plan : Plan) (barrier : ℕ → Sight → Result Bool Raise) (Free : S
   all_there n [] (v ∷ vs) h = absurd h
   all_there n (t ∷ ts) [] h = absurd h
   all_there n (t ∷ ts) (v ∷ vs) h =
-      ap (λ ms. ms ++ moves_from plan barrier (suc n) ts d) (none_differ (moves_of_task (λ k. ⊥) n t v h.0))
+      ap (λ ms. ms ++ moves_from plan barrier (suc n) ts d) (none_differ (moves_of_task ⊥ n t v h.0))
       ∙ ap (λ ms. turn_moves plan barrier (turn plan barrier n v e) n e ++ ms) (all_there (suc n) ts vs h.1)
 
   -- the same of such a task in both, and of all
   pub quiet_task : (Other : Type 0) (n : ℕ) (t v : TaskAt Seen) → (Other → HasSome (turn_moves plan barrier (turn plan barrier n t d) n d) → ⊥) → AlikeOrMoved Other n t v → turn_moves plan barrier (turn plan barrier n t d) n d ≡ turn_moves plan barrier (turn plan barrier n v e) n e
-  quiet_task Other n t v quiet h = quiet_same Other _ _ quiet (task_there Other n t v h).moves
+  quiet_task Other n t v quiet h = quiet_same Other _ _ quiet (moves_of_task Other n t v h)
 
   quiet_there : (Other : ℕ → Type 0) (n : ℕ) (ts vs : List (TaskAt Seen)) → Quiet plan barrier d Other n ts → Alikes Other n ts vs → moves_from plan barrier n ts d ≡ moves_from plan barrier n vs e
   quiet_there Other n [] [] quiet h = refl
@@ -398,7 +380,7 @@ module _ (plan : Plan) (barrier : ℕ → Sight → Result Bool Raise) (Free : S
   none_there Other n (t ∷ ts) (v ∷ vs) h none =
       let ms = turn_moves plan barrier (turn plan barrier n t d) n d in
       let ns = turn_moves plan barrier (turn plan barrier n v e) n e in
-      let here : ns ≡ [] = none_agree ms ns (moves_of_task Other n t v h.0) (none_before ms (moves_from plan barrier (suc n) ts d) none) in
+      let here : ns ≡ [] = none_agree ms ns (moves_of_task (Other n) n t v h.0) (none_before ms (moves_from plan barrier (suc n) ts d) none) in
       ap (λ l. l ++ moves_from plan barrier (suc n) vs e) here
       ∙ none_there Other (suc n) ts vs h.1 (none_after ms (moves_from plan barrier (suc n) ts d) none)
 
@@ -434,7 +416,7 @@ module _ (plan : Plan) (barrier : ℕ → Sight → Result Bool Raise) (Free : S
         let ns = turn_moves plan barrier (turn plan barrier n v e) n e in
         let rest = moves_from plan barrier (suc n) ts d in
         first_by n ms ns rest (moves_from plan barrier (suc n) vs e) others
-        (moves_of plan barrier (turn plan barrier n t d) n d) (moves_of_task Others n t v h.0) first
+        (moves_of plan barrier (turn plan barrier n t d) n d) (moves_of_task (Others n) n t v h.0) first
         (λ none. first_there (suc n) ts vs others h.1 (sym (ap (λ l. l ++ rest) none) ∙ first))
         (none_there Others (suc n) ts vs h.1)
 
@@ -453,10 +435,6 @@ module _ (plan : Plan) (barrier : ℕ → Sight → Result Bool Raise) (Free : S
 
   pub as_ended : has_ended plan barrier d.tasks ≡ has_ended plan barrier us
   as_ended = ended_there 0 d.tasks us alike
-
-  -- and its own statements go on at the next step of a task in both, or in neither
-  pub acting_there : (n : ℕ) → is_acting (turn_at plan barrier (slice_get d.tasks n) n d) ≡ is_acting (turn_at plan barrier (slice_get us n) n there)
-  acting_there n = acts_there plan barrier Free Served d free us left choices steps serves Moved (bares_alike plan barrier d (elsewhere us left choices steps d) Free Served Other Moved 0 d.tasks us alike) (λ k. opened_alike plan barrier d (elsewhere us left choices steps d) Free Served Other Moved 0 k k d.tasks us (omega arith) alike) Other n 0 n d.tasks us (omega arith) alike
 
 -- nothing differs
 module _ (plan : Plan) (barrier : ℕ → Sight → Result Bool Raise) (Free : Status → Type 0) (Served : Type 0) (Moved : ℕ → Type 0) (d : All Seen) (free : Free Running → AreIdle d) (us : List (TaskAt Seen)) (left : Left) (choices : List ℕ) (steps : ℕ) (serves : Served → ServesAlike plan barrier d (elsewhere us left choices steps d)) (alike : AlikeTasks plan barrier d (elsewhere us left choices steps d) Free Served (λ k. ⊥) Moved 0 d.tasks us) where

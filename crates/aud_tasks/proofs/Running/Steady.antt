@@ -185,7 +185,7 @@ module _ (plan : Plan) (code : Flat) where
     moved : moves.MovedTask plan K.barrier (seen plan K c) (seen plan K gone) n (seen_task n t (owns c.tasks) c.shared) (seen_task n (stands_so p t) (owns gone.tasks) gone.shared)
     moved =
         let after = plain_there p n n c.tasks own_plain in
-        moved_by plan code n p c t at own_plain after (runs_simply plan code c n own_plain here_simple) (runs_simply plan code gone n after there_simple)
+        moved_by plan code n p c t at (runs_simply plan code c n own_plain here_simple) (runs_simply plan code gone n after there_simple)
 
     abbrev EachAlike : ℕ → List (TaskAt Spot) → Type 0
     EachAlike i [] = Unit {0}

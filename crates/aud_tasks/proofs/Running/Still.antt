@@ -32,10 +32,9 @@ use Rattle.aud_state.specs.Fast.{stands_so}
 use Rattle.aud_state.specs.Reads.{IsPlain}
 use Rattle.aud_tasks.specs.Choices.{IsNoStart}
 use Rattle.aud_tasks.specs.Turning.{turn_in}
-use Rattle.aud_tasks.specs.Running.{is_acting, AreIdle, BeginsAlone, HindersNone}
+use Rattle.aud_tasks.specs.Running.{AreIdle, BeginsAlone, HindersNone}
 use Rattle.aud_tasks.proofs.Running.Moves as moves
 use Rattle.aud_tasks.specs.Moving.{moves_of}
-use Rattle.aud_tasks.proofs.StepLaws.Turning.{turn_plain}
 use Rattle.aud_tasks.proofs.ViewLaws.Seen.{one_seen, seen_at}
 use Rattle.aud_tasks.proofs.Running.Moves.{AreAlike, alike_self, AlikeTasks, elsewhere, left_in, stays, differs, moves_there}
 
@@ -176,22 +175,18 @@ module _ (plan : Plan) (code : Flat) where
   turn_so : (n : ℕ) (c : All Spot) (t : TaskAt Spot) → slice_get c.tasks n ≡ Some t → turn_in plan code n c ≡ turn_here n c t
   turn_so n c t at = ap (λ o. turn_at plan K.barrier o n (seen plan K c)) (seen_here n c t at)
 
-  acts_so : (n : ℕ) (c : All Spot) (t : TaskAt Spot) → slice_get c.tasks n ≡ Some t → IsPlain (own_of n c) → is_acting (turn_here n c t) ≡ true
-  acts_so n c t at is = ap is_acting (sym (turn_so n c t at)) ∙ ap is_acting (turn_plain plan code n c is)
-
   moves_so : (n : ℕ) (c : All Spot) (t : TaskAt Spot) → slice_get c.tasks n ≡ Some t → turn_moves plan K.barrier (turn_here n c t) n (seen plan K c) ≡ moves_of plan code n c
   moves_so n c t at = ap (λ u. turn_moves plan K.barrier u n (seen plan K c)) (sym (turn_so n c t at))
 
   -- with the same moves, where it has gone on
-  pub moved_by : (n : ℕ) (p : Part Spot) (c : All Spot) (t : TaskAt Spot) → slice_get c.tasks n ≡ Some t → IsPlain (own_of n c) → IsPlain (own_of n (gone_on n p c)) → moves_of plan code n c ≡ own_move n ∷ [] → moves_of plan code n (gone_on n p c) ≡ own_move n ∷ [] →
+  pub moved_by : (n : ℕ) (p : Part Spot) (c : All Spot) (t : TaskAt Spot) → slice_get c.tasks n ≡ Some t → moves_of plan code n c ≡ own_move n ∷ [] → moves_of plan code n (gone_on n p c) ≡ own_move n ∷ [] →
       moves.MovedTask plan K.barrier (seen plan K c) (seen plan K (gone_on n p c)) n (seen_task n t (owns c.tasks) c.shared) (seen_task n (stands_so p t) (owns (gone_on n p c).tasks) (gone_on n p c).shared)
-  moved_by n p c t at here there only_here only_there =
+  moved_by n p c t at only_here only_there =
       let gone = gone_on n p c in
       let after : slice_get gone.tasks n ≡ Some (stands_so p t) = here_changed p n t c.tasks at in
       record {
         own = refl;
         moves = moves_so n c t at ∙ only_here ∙ sym only_there ∙ sym (moves_so n gone (stands_so p t) after);
-        acts = acts_so n c t at here ∙ sym (acts_so n gone (stands_so p t) after there);
       }
 
   -- objects are idle where a task that is to begin an action runs
@@ -264,7 +259,7 @@ module _ (plan : Plan) (code : Flat) where
     plain_gone = plain_there p n n c.tasks own_plain
 
     moved : MovedThere (AreIdle c) plain (seen plan K c) (seen plan K gone) (owns c.tasks) (owns gone.tasks) c.shared gone.shared n n t p
-    moved = moved_by n p c t at own_plain plain_gone only_here only_there
+    moved = moved_by n p c t at only_here only_there
 
     alike_gone : AlikeTasks plan K.barrier (seen plan K c) (seen plan K gone) (IfRunning (AreIdle c)) ⊥ (λ k. ¬ (k ≡ n)) (λ k. k ≡ n) 0 (seen plan K c).tasks (seen plan K gone).tasks
     alike_gone =

@@ -1,5 +1,5 @@
 -- What a task does at its next step, by what is read of it.
-use Rattle.std.proofs.Common.{◌≡◌, ℕ, Option, None, Bool, true, false, if◌then◌else◌, ◌||◌, refl, ap, ◌∙◌}
+use Rattle.std.proofs.Common.{◌≡◌, ℕ, Option, None, true, false, refl, ap, ◌∙◌}
 use Rattle.aud_typed.specs.Tree.{Plan}
 use Rattle.aud_meaning.specs.declared.state.Serving.{Serving}
 use Rattle.aud_meaning.specs.declared.state.Status.{Status}
@@ -15,10 +15,6 @@ use Rattle.aud_tasks.specs.declared.turn.Turn.TheVariants.{Acting}
 use Rattle.aud_abort.specs.Deferring.{deferred_in}
 use Rattle.aud_tasks.specs.Turning.{seen_in, turn_in, turned, usual_in}
 use Rattle.aud_tasks.proofs.ViewLaws.Seen.{turn_law}
-
-pub or_if : (a b : Bool) → (a || b) ≡ (if a then true else b)
-or_if true b = refl
-or_if false b = refl
 
 module _ (plan : Plan) (code : Flat) (n : ℕ) (c : All Spot) where
   abbrev o : Own

@@ -65,7 +65,7 @@ fn choices(alloc: Global) -> Result<Vec<u32>, AllocError> {
     Ok(choices)
 }
 
-fn steps_of_one_list(
+fn steps_of_one_call(
     rt: &impl Abort,
     alloc: Global,
     compiled: Compiled<'_>,
@@ -84,7 +84,7 @@ fn steps_of_one_list(
 }
 
 #[test]
-fn lists_moves_once(rt: HostRuntime) -> Result<(), AllocError> {
+fn picks_many_in_one_call(rt: HostRuntime) -> Result<(), AllocError> {
     let choices = choices(rt.alloc())?;
     for shape in &SHAPES {
         let program = loaded(rt.alloc(), shape.text)?;
@@ -94,7 +94,7 @@ fn lists_moves_once(rt: HostRuntime) -> Result<(), AllocError> {
             program: program.program(),
             limits: STANDARD,
         };
-        let steps = steps_of_one_list(&rt, rt.alloc(), compiled, &choices)?;
+        let steps = steps_of_one_call(&rt, rt.alloc(), compiled, &choices)?;
         assert!(rt; steps == shape.steps, "{}", shape.what);
     }
     Ok(())

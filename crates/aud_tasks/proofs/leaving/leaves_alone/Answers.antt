@@ -1,4 +1,4 @@
-use Rattle.std.proofs.Common.{◌≡◌, ◌<◌, Bool, true, false, not, Option, None, Some, ℕ, refl, sym, ap, subst, ◌∙◌, arith}
+use Rattle.std.proofs.Common.{◌≡◌, Bool, true, false, not, Option, None, Some, refl, sym, subst, ◌∙◌, arith}
 use Rattle.std.specs.Option.{is_some}
 use Rattle.std.specs.Prelude.{slice_get}
 use Rattle.aud_typed.specs.Tree.{Plan}
@@ -6,7 +6,6 @@ use Rattle.aud_meaning.specs.Evaluation.{Sight}
 use Rattle.aud_state.specs.Reads.{coming_by, LeavesBy}
 use Rattle.aud_meaning.specs.declared.state.Pending.{Pending}
 use Rattle.aud_meaning.specs.Parts.{own_of}
-use Rattle.aud_code.specs.Flat.{EndLine, end_at}
 use Rattle.aud_tasks.proofs.Running.Leaving.{leaving_there}
 use Rattle.aud_tasks.proofs.StepLaws.Stepping.{task_there}
 use Rattle.aud_tasks.proofs.leaving.leaves_alone.Goals as goal
