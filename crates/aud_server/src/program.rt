@@ -8,13 +8,11 @@ ghost use Rattle.aud_server.specs.Program.{AsksSolo, status, of_kind};
 
 use crate::listen::{ListenFault, listen};
 use crate::options::read_options;
-use aud_solo::ended::run_solo;
+use aud_solo::ended::run_standard;
 use aud_solo::serving::ServeFault;
-use aud_solo::streams::Stream;
 use clap::error::ErrorKind;
 use clap::{Arg, ArgAction, Command, Error as ClapError};
 use std::alloc::{AllocError, Global};
-use std::io;
 use std::net::{Net, TcpListener, TcpStream};
 use std::sync::Wait;
 use std::thread::Threads;
@@ -118,7 +116,7 @@ where
     ensures listened { (AsksSolo (map string_bytes words.now) → ⊥) → IfOk result (λ s. s ≡ 0) }
 {
     if asks_solo(rt.alloc(), words)? {
-        return Ok(serve_input(rt));
+        return Ok(run_standard(rt));
     }
     let options = read_options(rt.alloc(), words)?;
     match listen(rt, rt.alloc(), options) {
@@ -126,15 +124,6 @@ where
         Err(ListenFault::Listen) => Err(ProgramFault::Listen),
         Err(ListenFault::Memory) => Err(ProgramFault::Server(ServeFault::Memory)),
     }
-}
-
-// Serves the standard input.
-fn serve_input<R: Input + Print + Eprint + AllocGlobal>(rt: &R) -> u8
-    ensures known { (result ≡ 0) ⊎ (result ≡ 1) ⊎ (result ≡ 4) }
-{
-    let mut reader = Stream::new(rt.reader());
-    let mut writer = Stream::new(io::writer(rt));
-    run_solo(rt, rt.alloc(), &mut reader, &mut writer)
 }
 
 // Whether `--solo` is all that is asked.

@@ -1,6 +1,6 @@
 // With which status a program ends that has served one stream of requests.
 
-ghost use Rattle.std.specs.Prelude.{◌≡◌};
+ghost use Rattle.std.specs.Prelude.{◌≡◌, ◌⊎◌};
 ghost use Rattle.aud_solo.specs.declared.serving.TheConstants.{READS};
 ghost use Rattle.aud_solo.specs.Ended.{EndsAs, fault_status};
 ghost use Rattle.aud_solo.specs.Serving.{Serves, CountsReadsTo, CountsWrites};
@@ -9,8 +9,9 @@ ghost use Rattle.aud_solo.specs.Streams.{counted_by, CountsUpTo};
 
 use crate::serving::ServeFault;
 use crate::solo::solo;
-use crate::streams::{Sink, Source};
+use crate::streams::{Sink, Source, Stream};
 use std::alloc::Global;
+use std::io;
 
 impl ServeFault {
     /// The status with which a program ends for it.
@@ -45,6 +46,15 @@ pub fn run_solo<S: Source, T: Sink>(
         Ok(()) => 0,
         Err(fault) => tell(rt, fault),
     }
+}
+
+/// Serves the standard input as `run_solo` does, and gives its status.
+pub fn run_standard<R: Input + Print + Eprint + AllocGlobal>(rt: &R) -> u8
+    ensures known { (result ≡ 0) ⊎ (result ≡ 1) ⊎ (result ≡ 4) }
+{
+    let mut reader = Stream::new(rt.reader());
+    let mut writer = Stream::new(io::writer(rt));
+    run_solo(rt, rt.alloc(), &mut reader, &mut writer)
 }
 
 // Says on the standard error why the program ends, and gives its status.
