@@ -8,15 +8,15 @@ use Rattle.aud_bench.proofs.Sessions.{alone_front}
 use Rattle.aud_pass.proofs.Overs.{front_more}
 use Rattle.aud_pass.specs.declared.fault.DeskFault.{DeskFault}
 use Rattle.aud_pass.specs.declared.fault.DeskFault.TheVariants as fault
-use Rattle.aud_pass.specs.Passed.{IsFront, Passed}
+use Rattle.aud_pass.specs.Passed.{IsPrefix, Passed}
 use Rattle.aud_pass.specs.Replies.{IsLost, HasNoSeat, OpensNot, FitsBy}
 use Rattle.aud_connection.specs.Told.{Told, Answered, Faulted, all_answered, are_answers, AreLost}
 use Rattle.aud_connection.specs.Served.{Begins}
 use Rattle.aud_connection.specs.Ties.Visits.{Ends}
 
--- ---- fronts
+-- ---- prefixes
 
--- a front of a list and one thing more is all of that, or a front of the list
+-- a prefix of a list and one thing more is all of that, or a prefix of the list
 split_last : (front rest told : List Told) (t : Told) → told ++ t ∷ [] ≡ front ++ rest → (front ≡ told ++ t ∷ []) ⊎ ((others : List Told) × (told ≡ front ++ others))
 split_last [] rest told t e = inr (told, refl)
 split_last (x ∷ []) rest [] t e =
@@ -46,7 +46,7 @@ module _ (limits : Limits) where
       → (are_answers (told ++ t ∷ []) ≡ true → told ++ t ∷ [] ≡ all_answered (alone limits (after ++ r ∷ []))) → Begins limits (after ++ r ∷ []) (told ++ t ∷ [])
   begins_on after r told t begins whole front rest e h = by (split_last front rest told t e)
     where
-      by : ((front ≡ told ++ t ∷ []) ⊎ ((others : List Told) × (told ≡ front ++ others))) → (answers : List Answer) × (front ≡ all_answered answers) × IsFront answers (alone limits (after ++ r ∷ []))
+      by : ((front ≡ told ++ t ∷ []) ⊎ ((others : List Told) × (told ≡ front ++ others))) → (answers : List Answer) × (front ≡ all_answered answers) × IsPrefix answers (alone limits (after ++ r ∷ []))
       by (inl is) =
           let all = alone limits (after ++ r ∷ []) in
           (all, is ∙ whole (subst (λ xs. are_answers xs ≡ true) is h), ([], sym (append-nil all)))

@@ -8,7 +8,7 @@ use Rattle.aud_bench.specs.declared.request.Request.TheVariants.{Seat}
 use Rattle.aud_bench.specs.declared.request.Answer.{Answer}
 use Rattle.aud_bench.specs.declared.request.Answer.TheVariants.{Done}
 use Rattle.aud_bench.specs.Alone.{is_quit, alone}
-use Rattle.aud_pass.specs.Passed.{IsFront}
+use Rattle.aud_pass.specs.Passed.{IsPrefix}
 use Rattle.aud_lines.specs.Requests.{requests}
 use Rattle.aud_lines.specs.Text.{answer_text}
 use Rattle.aud_solo.specs.declared.serving.TheConstants.{PIECE}
@@ -24,7 +24,7 @@ pub record Waits (asked : List Request) (text : List ℕ) : Type 0 where
 -- what is told begins with these answers of a private server, up to the first refusal of the desk
 abbrev pub Begins : Limits → List Request → List Told → Type 0
 Begins limits after told =
-    (front rest : List Told) → told ≡ front ++ rest → are_answers front ≡ true → (answers : List Answer) × (front ≡ all_answered answers) × IsFront answers (alone limits after)
+    (front rest : List Told) → told ≡ front ++ rest → are_answers front ≡ true → (answers : List Answer) × (front ≡ all_answered answers) × IsPrefix answers (alone limits after)
 
 -- A SEAT took one. Where nothing that was told from then on is a refusal of the desk, it is all the answers of a private server; else it
 -- begins with some of them.

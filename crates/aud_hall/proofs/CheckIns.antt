@@ -11,7 +11,7 @@ use Rattle.aud_hall.specs.declared.why.Why.{Why}
 use Rattle.aud_hall.specs.declared.why.Why.TheVariants.{OtherLimits, Behind}
 use Rattle.aud_hall.specs.Slices.{answered}
 use Rattle.aud_hall.specs.Seats.{Seat, taken_in}
-use Rattle.aud_hall.specs.Numbered.{one_on, IsFront}
+use Rattle.aud_hall.specs.Numbered.{one_on, IsPrefix}
 use Rattle.aud_hall.specs.CheckIns.{first_difference, not_awaited, or_differs, judged, checked}
 use Rattle.aud_hall.specs.Ties.Right.{IsTrue, IsAway, IsMade, IsRight}
 use Rattle.aud_bench.proofs.Made.{made_grows, made_short}
@@ -59,17 +59,17 @@ worked_true b after d w t = by b.spent after.spent refl refl
 -- a seat waits for this bench
 pub record Awaits (limits : Limits) (b : Bench) (s : Seat) : Type 0 where
   pub limits_are : b.limits ≡ limits
-  pub front : IsFront b.journal s.requests
+  pub front : IsPrefix b.journal s.requests
   pub out : s.home ≡ None
   pub ahead : length s.outbox ≤ answered b
   pub joins : b.taken ≤ length s.outbox
 
-pub first_none : (journal requests : List Request) → first_difference journal requests ≡ None → IsFront journal requests
+pub first_none : (journal requests : List Request) → first_difference journal requests ≡ None → IsPrefix journal requests
 first_none [] requests h = (requests, refl)
 first_none (x ∷ journal) [] h = absurd (cc)
 first_none (x ∷ journal) (r ∷ requests) h = by (same_request x r) (first_difference journal requests) refl refl h (first_none journal requests)
   where
-    by : (c : Bool) (d : Option ℕ) → same_request x r ≡ c → first_difference journal requests ≡ d → (if c then one_on d else Some 0) ≡ None → (first_difference journal requests ≡ None → IsFront journal requests) → IsFront (x ∷ journal) (r ∷ requests)
+    by : (c : Bool) (d : Option ℕ) → same_request x r ≡ c → first_difference journal requests ≡ d → (if c then one_on d else Some 0) ≡ None → (first_difference journal requests ≡ None → IsPrefix journal requests) → IsPrefix (x ∷ journal) (r ∷ requests)
     by true None e f h rest =
         let front = rest f in
         (front.0, ap (λ y. y ∷ requests) (sym (same_is x r e)) ∙ ap (λ ys. x ∷ ys) front.1)
@@ -100,13 +100,13 @@ module _ (limits : Limits) (b : Bench) (s : Seat) (kept : is_kept s.requests ≡
   within_here : b.units ≤ cost limits b.journal
   within_here = subst (λ l. b.units ≤ cost l b.journal) w.limits_are t.within
 
-  -- outbox and what it made are two fronts of one list
-  longer : IsFront s.outbox (made_by b)
+  -- outbox and what it made are two prefixes of one list
+  longer : IsPrefix s.outbox (made_by b)
   longer = (
     drop (length s.outbox) (made_by b),
     two_fronts s.outbox (made_by b) (alone limits s.requests)
         (away_front limits s kept away)
-        (subst (λ xs. IsFront xs (alone limits s.requests)) (sym made_here) (front_of_alone limits b.journal s.requests b.units w.front within_here kept))
+        (subst (λ xs. IsPrefix xs (alone limits s.requests)) (sym made_here) (front_of_alone limits b.journal s.requests b.units w.front within_here kept))
         w.ahead,
   )
 

@@ -10,7 +10,7 @@ use Rattle.aud_bench.specs.Ties.Kept.{is_kept}
 use Rattle.aud_bench.specs.Seen.{Seen as Bench, has_quit, told, made_by, answers_of}
 use Rattle.aud_hall.specs.Slices.{given, until}
 use Rattle.aud_hall.specs.Seats.{Seat, claimed, stored, has_closed, submitting, submitted, taken_in, sends, sending_by, sending, sent}
-use Rattle.aud_hall.specs.Numbered.{IsFront}
+use Rattle.aud_hall.specs.Numbered.{IsPrefix}
 use Rattle.aud_hall.specs.Ties.Right.{Begins, IsTrue, IsAway, IsHome, IsMade, IsRight}
 use Rattle.aud_bench.proofs.Fronts.{front_law, none_kept, kept_more}
 use Rattle.aud_bench.proofs.Made.{made_more, cost_more, none_done}
@@ -20,21 +20,21 @@ use Rattle.aud_hall.proofs.Lists.{drop_front, front_rest, begins_front, front_be
 
 -- ## Fronts of the answers
 
--- what is made of a front of kept requests is made of all of them, and a front of the answers to them
-pub made_of_front : (limits : Limits) (journal requests : List Request) (units : ℕ) → IsFront journal requests → units ≤ cost limits journal → made limits journal units ≡ made limits requests units
+-- what is made of a prefix of kept requests is made of all of them, and a prefix of the answers to them
+pub made_of_front : (limits : Limits) (journal requests : List Request) (units : ℕ) → IsPrefix journal requests → units ≤ cost limits journal → made limits journal units ≡ made limits requests units
 made_of_front limits journal requests units f h = sym (made_more limits journal f.0 units h) ∙ ap (λ rs. made limits rs units) (sym f.1)
 
-pub front_of_alone : (limits : Limits) (journal requests : List Request) (units : ℕ) → IsFront journal requests → units ≤ cost limits journal → is_kept requests ≡ true → IsFront (made limits journal units) (alone limits requests)
+pub front_of_alone : (limits : Limits) (journal requests : List Request) (units : ℕ) → IsPrefix journal requests → units ≤ cost limits journal → is_kept requests ≡ true → IsPrefix (made limits journal units) (alone limits requests)
 front_of_alone limits journal requests units f h kept =
     let law = front_law limits requests units kept in
     (law.0, law.1 ∙ ap (λ xs. xs ++ law.0) (sym (made_of_front limits journal requests units f h)))
 
-pub front_more : (xs ys zs : List Answer) → IsFront xs ys → IsFront ys zs → IsFront xs zs
+pub front_more : (xs ys zs : List Answer) → IsPrefix xs ys → IsPrefix ys zs → IsPrefix xs zs
 front_more xs ys zs f g = (f.0 ++ g.0, g.1 ∙ ap (λ us. us ++ g.0) f.1 ∙ append_assoc xs f.0 g.0)
 
--- while the bench is out the outbox is a front of the answers
-pub away_front : (limits : Limits) (s : Seat) → is_kept s.requests ≡ true → IsAway limits s → IsFront s.outbox (alone limits s.requests)
-away_front limits s kept m = subst (λ xs. IsFront xs (alone limits s.requests)) (sym m.outbox) (front_of_alone limits m.journal s.requests m.units (begins_front m.journal s.requests m.front) m.within kept)
+-- while the bench is out the outbox is a prefix of the answers
+pub away_front : (limits : Limits) (s : Seat) → is_kept s.requests ≡ true → IsAway limits s → IsPrefix s.outbox (alone limits s.requests)
+away_front limits s kept m = subst (λ xs. IsPrefix xs (alone limits s.requests)) (sym m.outbox) (front_of_alone limits m.journal s.requests m.units (begins_front m.journal s.requests m.front) m.within kept)
 
 -- ## Claim
 
@@ -53,7 +53,7 @@ claimed_right limits = record {
 
 -- ## Submit
 
-pub front_on : (journal requests : List Request) (r : Request) → IsFront journal requests → IsFront journal (requests ++ r ∷ [])
+pub front_on : (journal requests : List Request) (r : Request) → IsPrefix journal requests → IsPrefix journal (requests ++ r ∷ [])
 front_on journal requests r f = (f.0 ++ r ∷ [], ap (λ rs. rs ++ r ∷ []) f.1 ∙ append_assoc journal f.0 (r ∷ []))
 
 made_on : (limits : Limits) (s : Seat) (r : Request) (home : Option Bench) → IsMade limits s home → IsMade limits (stored s r) home
@@ -90,7 +90,7 @@ submitted_right limits r refused s right = by (has_quit s.requests) (not (fits (
 -- ## A bench comes home
 
 -- what it made goes on from the outbox
-pub taken_home : (limits : Limits) (b : Bench) (s : Seat) → b.limits ≡ limits → Begins b.journal s.requests → b.units ≤ cost limits b.journal → IsFront s.outbox (made_by b)
+pub taken_home : (limits : Limits) (b : Bench) (s : Seat) → b.limits ≡ limits → Begins b.journal s.requests → b.units ≤ cost limits b.journal → IsPrefix s.outbox (made_by b)
     → (b.spent ≡ true → length (made limits b.journal b.units) < length s.requests) → IsHome limits (taken_in b s) (record b { taken = length (answers_of b) })
 taken_home limits b s limits_are front within so_far short =
     let all : s.outbox ++ drop (length s.outbox) (answers_of b) ≡ answers_of b =
@@ -106,8 +106,8 @@ taken_home limits b s limits_are front within so_far short =
 
 -- ## SendOut
 
--- what is given is a front of the stored requests again
-pub given_front : (requests : List Request) (refused : Option ℕ) (b : Bench) → IsFront b.journal requests → IsFront (given requests refused b).journal requests
+-- what is given is a prefix of the stored requests again
+pub given_front : (requests : List Request) (refused : Option ℕ) (b : Bench) → IsPrefix b.journal requests → IsPrefix (given requests refused b).journal requests
 given_front requests refused b f =
     let missing = drop (length b.journal) requests in
     let missing_is : missing ≡ f.0 = ap (drop (length b.journal)) f.1 ∙ drop_front b.journal f.0 in

@@ -10,7 +10,7 @@ use Rattle.aud_bench.specs.contracts.request.Answer as answered
 use Rattle.aud_bench.specs.Alone.{alone, made}
 use Rattle.aud_bench.specs.Ties.Kept.{is_kept}
 use Rattle.aud_bench.specs.Seen.{Seen as Bench, told}
-use Rattle.aud_hall.specs.Numbered.{IsFront}
+use Rattle.aud_hall.specs.Numbered.{IsPrefix}
 use Rattle.aud_hall.specs.Seats.{Seat, has_closed}
 use Rattle.aud_hall.specs.Told.{AreAnswers, IsFrontAtHome, IsToldIn}
 use Rattle.aud_hall.specs.Ties.Right.{IsMade, IsRight, IsRightSeat}
@@ -18,7 +18,7 @@ use Rattle.aud_hall.proofs.Lists.{begins_front, front_begins}
 use Rattle.aud_hall.proofs.Seats.{front_of_alone, away_front}
 
 -- some of the answers, and perhaps that memory was refused
-front_told : (answers some all : List Answer) (closed : Bool) → answers ≡ some ++ told closed → IsFront some all → answers ≡ take (length answers - length (told closed)) all ++ told closed
+front_told : (answers some all : List Answer) (closed : Bool) → answers ≡ some ++ told closed → IsPrefix some all → answers ≡ take (length answers - length (told closed)) all ++ told closed
 front_told answers some all closed is f =
     let n : length answers - length (told closed) ≡ length some = omega (arith, ap length is, length-append some (told closed)) in
     is ∙ ap (λ xs. xs ++ told closed) (sym (front_begins some all f)) ∙ ap (λ k. take k all ++ told closed) (sym n)

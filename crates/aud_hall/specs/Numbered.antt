@@ -1,4 +1,4 @@
--- Lists whose items are numbered from 0, and fronts of lists.
+-- Lists whose items are numbered from 0, and prefixes of lists.
 use Rattle.std.specs.Prelude.{◌≡◌, ℕ, zero, suc, List, [], ◌∷◌, ◌++◌, Option, Some, None}
 
 abbrev pub at : {A : Type 0} → List A → ℕ → Option A
@@ -21,6 +21,6 @@ abbrev pub one_on : Option ℕ → Option ℕ
 one_on None = None
 one_on (Some n) = Some (suc n)
 
--- one list is a front of another
-abbrev pub IsFront : {A : Type 0} → List A → List A → Type 0
-IsFront {A} front whole = (rest : List A) × (whole ≡ front ++ rest)
+-- one list is a prefix of another
+abbrev pub IsPrefix : {A : Type 0} → List A → List A → Type 0
+IsPrefix {A} front whole = (rest : List A) × (whole ≡ front ++ rest)

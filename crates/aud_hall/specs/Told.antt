@@ -13,7 +13,7 @@ use Rattle.aud_hall.specs.Ties.Right.{Begins}
 abbrev pub AreAnswers : Limits → List Request → (closed : Bool) → List Answer → Type 0
 AreAnswers limits requests closed answers = answers ≡ take (length answers - length (told closed)) (alone limits requests) ++ told closed
 
--- the journal of the bench that is at home is a front of the stored requests
+-- the journal of the bench that is at home is a prefix of the stored requests
 abbrev pub IsFrontAtHome : List Request → Option Bench → Type 0
 IsFrontAtHome requests None = Unit {0}
 IsFrontAtHome requests (Some b) = Begins b.journal requests

@@ -5,7 +5,7 @@ ghost use Rattle.aud_hall.specs.CheckIns.{first_difference};
 
 use aud_bench::request::Request;
 
-/// The first place where a journal parts from the requests, or where these end; none where it is a front of them.
+/// The first place where a journal parts from the requests, or where these end; none where it is a prefix of them.
 pub fn first_difference(journal: &[Request], requests: &[Request]) -> Option<usize>
     ensures { result ≡ first_difference journal.now requests.now }
 {

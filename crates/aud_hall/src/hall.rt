@@ -21,7 +21,7 @@ use std::marker::Model;
 /// Seats, numbered from 1, each with limits of its own.
 ///
 /// A session lasts from a claim to the next free. Its requests are stored, and its bench goes out as a parcel, on which anybody
-/// may work; once that is checked in, its answers can be collected. The answers of each session are a front of those of a
+/// may work; once that is checked in, its answers can be collected. The answers of each session are a prefix of those of a
 /// private server to its own requests, whatever else happens in the hall; where memory is refused, its last answer may say so.
 #[derive(Drop)]
 pub struct Hall {
@@ -136,7 +136,7 @@ impl Hall {
     /// # Errors
     ///
     /// The parcel comes back with the first that holds of: there is no such seat; its limits are others; the parcel's requests
-    /// are no front of the stored ones, at the first place where they part (a seat that nobody has claimed has none); its bench
+    /// are no prefix of the stored ones, at the first place where they part (a seat that nobody has claimed has none); its bench
     /// is not out; the parcel has fewer answers than the seat has, or no longer holds some of those past them. Nothing has
     /// changed then.
     pub fn check_in(&mut self, seat: usize, parcel: Parcel) -> Result<Next, Stranger>

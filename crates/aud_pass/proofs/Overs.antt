@@ -10,7 +10,7 @@ use Rattle.aud_bench.specs.Seen.{tells_memory, told}
 use Rattle.aud_bench.proofs.Truths.{or_left, or_right}
 use Rattle.aud_bench.proofs.Told.{alone_never, alone_count}
 use Rattle.aud_bench.proofs.Sessions.{alone_front}
-use Rattle.aud_hall.specs.Numbered.{IsFront}
+use Rattle.aud_hall.specs.Numbered.{IsPrefix}
 use Rattle.aud_hall.specs.Told.{AreAnswers}
 use Rattle.aud_hall.proofs.Lists.{two_fronts, front_rest}
 pub use Rattle.aud_hall.proofs.Seats.{front_more}
@@ -74,11 +74,11 @@ pub got_none : (limits : Limits) → IsGot limits [] []
 got_none limits = ([], refl, (alone limits [], refl))
 
 module _ (limits : Limits) (sent : List Request) (got : List Answer) (right : IsGot limits sent got) (over : is_over got ≡ false) where
-  -- the answers are a front of those of a private server
-  pub front_got : IsFront got (alone limits sent)
+  -- the answers are a prefix of those of a private server
+  pub front_got : IsPrefix got (alone limits sent)
   front_got =
       let is : got ≡ right.0 = right.1 ∙ ap (λ c. right.0 ++ told c) over ∙ append-nil right.0 in
-      subst (λ xs. IsFront xs (alone limits sent)) (sym is) right.2
+      subst (λ xs. IsPrefix xs (alone limits sent)) (sym is) right.2
 
   within : length got ≤ length sent
   within = omega (arith, ap length front_got.1, length-append got front_got.0, alone_count limits sent)
@@ -99,7 +99,7 @@ module _ (limits : Limits) (sent : List Request) (got : List Answer) (right : Is
 
   -- longer answers of the same server begin with them
   module _ (closed : Bool) (answers : List Answer) (is : AreAnswers limits sent closed answers) (longer : length got < length answers) where
-    pub front_longer : IsFront got answers
+    pub front_longer : IsPrefix got answers
     front_longer =
         let all = alone limits sent in
         let n = length answers - length (told closed) in

@@ -5,7 +5,7 @@ use Rattle.std.proofs.lemmas.Bool.Decides.{nat_tests}
 use Rattle.aud_text.specs.declared.limits.Limits.{Limits}
 use Rattle.aud_bench.specs.declared.request.Answer.{Answer}
 use Rattle.aud_bench.specs.Alone.{alone}
-use Rattle.aud_hall.specs.Numbered.{IsFront}
+use Rattle.aud_hall.specs.Numbered.{IsPrefix}
 use Rattle.aud_hall.specs.Halls.{Place}
 use Rattle.aud_hall.specs.Told.{IsToldAt}
 use Rattle.aud_hall.specs.Ties.Places.{outbox_at}
@@ -41,7 +41,7 @@ module _ (p : Passed) (right : IsGot p.limits p.sent p.got) (over : is_over p.go
       longer : length p.got < length (outbox_at o)
       longer = omega (arith, ap length new_is, length-drop (length p.got) (outbox_at o), some)
 
-      begins : IsFront p.got (outbox_at o)
+      begins : IsPrefix p.got (outbox_at o)
       begins =
           let is = answers_there p o there t in
           front_longer p.limits p.sent p.got right over is.0 (outbox_at o) is.1 longer

@@ -6,7 +6,7 @@ use Rattle.aud_bench.specs.declared.request.Request.{Request}
 use Rattle.aud_bench.specs.declared.request.Answer.{Answer}
 use Rattle.aud_bench.specs.Same.{same_limits}
 use Rattle.aud_bench.proofs.Sameness.{same_limits_is}
-use Rattle.aud_hall.specs.Numbered.{IsFront}
+use Rattle.aud_hall.specs.Numbered.{IsPrefix}
 use Rattle.aud_hall.specs.Replies.{Reply, Answers, Then}
 use Rattle.aud_hall.specs.Seats.{Seat, has_closed, collected}
 use Rattle.aud_hall.specs.CheckIns.{first_difference}
@@ -81,7 +81,7 @@ module _ (p : Passed) (o : Option Place) (limits : Limits) (stored : List Reques
 
 -- ## What a pass that is one of its seat's knows
 
-front_whole : (sent stored : List Request) → IsFront sent stored → length stored ≤ length sent → sent ≡ stored
+front_whole : (sent stored : List Request) → IsPrefix sent stored → length stored ≤ length sent → sent ≡ stored
 front_whole sent stored (rest, is) h = by rest is
   where
     by : (rest : List Request) → stored ≡ sent ++ rest → sent ≡ stored

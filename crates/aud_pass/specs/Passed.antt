@@ -7,7 +7,7 @@ use Rattle.aud_bench.specs.declared.request.Answer.{Answer}
 use Rattle.aud_bench.specs.declared.request.Answer.TheVariants.{Refused}
 use Rattle.aud_bench.specs.Alone.{alone}
 use Rattle.aud_bench.specs.Seen.{told}
-pub use Rattle.aud_hall.specs.Numbered.{IsFront}
+pub use Rattle.aud_hall.specs.Numbered.{IsPrefix}
 
 -- the seat, its limits, what was sent, and what was got
 pub record Passed : Type 0 where
@@ -26,9 +26,9 @@ is_over [] = false
 is_over (a ∷ []) = tells_memory a
 is_over (a ∷ b ∷ answers) = is_over (b ∷ answers)
 
--- a front of the answers of a private server to what was sent; or one, and then that memory is out
+-- a prefix of the answers of a private server to what was sent; or one, and then that memory is out
 abbrev pub IsGot : Limits → List Request → List Answer → Type 0
-IsGot limits sent got = (front : List Answer) × (got ≡ front ++ told (is_over got)) × IsFront front (alone limits sent)
+IsGot limits sent got = (front : List Answer) × (got ≡ front ++ told (is_over got)) × IsPrefix front (alone limits sent)
 
 -- a new pass of this seat
 abbrev pub IsOpened : ℕ → Passed → Type 0

@@ -4,7 +4,7 @@ use Rattle.aud_bench.specs.declared.request.Request.{Request}
 use Rattle.aud_bench.specs.Alone.{fits, alone}
 use Rattle.aud_bench.specs.Seen.{has_quit}
 use Rattle.aud_bench.specs.Size.{bytes_of}
-use Rattle.aud_hall.specs.Numbered.{IsFront}
+use Rattle.aud_hall.specs.Numbered.{IsPrefix}
 use Rattle.aud_pass.specs.declared.got.Got.{Got}
 use Rattle.aud_pass.specs.declared.got.Got.TheVariants.{Idle, New, Busy}
 use Rattle.aud_pass.specs.declared.fault.DeskFault.{DeskFault}
@@ -27,7 +27,7 @@ pub record Grows (n : ℕ) (p q : Passed) : Type 0 where
   pub seat : q.seat ≡ p.seat
   pub limits : q.limits ≡ p.limits
   pub sent : q.sent ≡ p.sent
-  pub front : IsFront p.got q.got
+  pub front : IsPrefix p.got q.got
   pub more : length q.got ≡ length p.got + n
   pub some : 1 ≤ n
 

@@ -11,8 +11,8 @@ use Rattle.aud_lines.proofs.FeedLaws.{fed_more, fed_all, none_whole, of_nothing}
 use Rattle.aud_solo.specs.declared.serving.ServeFault.{ServeFault}
 use Rattle.aud_solo.specs.declared.serving.TheConstants.{PIECE}
 use Rattle.aud_solo.specs.Serving.{Telling, TellsSome, WritesAll, WritesCut, WritesPart, memory_text}
-use Rattle.aud_solo.specs.Streams.{Grows, AppendsFront}
-use Rattle.aud_solo.specs.Ties.Serving.{Words, IsFresh, TellsNext, TellsNoMore, HasTold, TellsTo, WritesSome, WritesFront, HasServed, StopsIn, GoesOn}
+use Rattle.aud_solo.specs.Streams.{Grows, AppendsPrefix}
+use Rattle.aud_solo.specs.Ties.Serving.{Words, IsFresh, TellsNext, TellsNoMore, HasTold, TellsTo, WritesSome, WritesPrefix, HasServed, StopsIn, GoesOn}
 use Rattle.aud_solo.proofs.StreamLaws.{appends_none, appends_more, grows_none, first_grown, first_more, consumes_none, consumes_more}
 
 -- ---- of several requests the one at i
@@ -27,7 +27,7 @@ all_of asked rs i r below is =
     ∙ append_assoc asked (take (i + 1) rs) (drop (i + 1) rs)
     ∙ ap (λ xs. asked ++ xs) (take-append-drop (i + 1) rs)
 
--- ---- fronts, and then that memory is out
+-- ---- prefixes, and then that memory is out
 
 pub stops_more : {S : Type 0} (words : Words S) (left remaining before middle now : Option (List ℕ)) → StopsIn words left remaining before middle → Grows middle now → StopsIn words left remaining before now
 stops_more words left remaining before middle now s grows = record {
@@ -50,11 +50,11 @@ module _ (tells : Telling) where
   cut before middle new asked said is (told, some, k) j =
       (told, some, appends_more before middle new told memory_text k (subst (Appends middle new) is j))
 
-  pub cut_part : (before middle new : Option (List ℕ)) (asked : List Request) (said : List ℕ) → said ≡ memory_text → WritesSome tells before middle asked → AppendsFront middle new said → WritesPart tells before new asked
+  pub cut_part : (before middle new : Option (List ℕ)) (asked : List Request) (said : List ℕ) → said ≡ memory_text → WritesSome tells before middle asked → AppendsPrefix middle new said → WritesPart tells before new asked
   cut_part before middle new asked said is (told, some, k) (xs, ys, j, f) =
       (told, some, inr (told ++ xs, ys, appends_more before middle new told xs k j, ap (λ t. told ++ t) (sym is ∙ f) ∙ sym (append_assoc told xs ys)))
 
-  pub part : (before new : Option (List ℕ)) (asked : List Request) → WritesFront tells before new asked → WritesPart tells before new asked
+  pub part : (before new : Option (List ℕ)) (asked : List Request) → WritesPrefix tells before new asked → WritesPart tells before new asked
   part before new asked (told, some, front) = (told, some, inl front)
 
 module _ {S : Type 0} (words : Words S) where
@@ -74,7 +74,7 @@ module _ {S : Type 0} (words : Words S) where
           let is = more asked h.told h.is in
           record { told = h.told ++ said; is = is.0; tells = is.1; written = appends_more before old new h.told said h.written k }
 
-      pub front_told : (new : Option (List ℕ)) → AppendsFront old new said → WritesFront words.tells before new (asked ++ r ∷ [])
+      pub front_told : (new : Option (List ℕ)) → AppendsPrefix old new said → WritesPrefix words.tells before new (asked ++ r ∷ [])
       front_told new (xs, ys, k, f) = (
         h.told ++ said,
         (asked ++ r ∷ [], [], sym (append-nil (asked ++ r ∷ [])), (more asked h.told h.is).1),
@@ -188,8 +188,8 @@ module _ {S : Type 0} (words : Words S) where
       pub some_given : (new : Option (List ℕ)) → WritesSome words.tells before new (h.asked ++ given) → WritesSome words.tells before new (requests (h.input ++ piece))
       some_given new = subst (WritesSome words.tells before new) (sym given_all)
 
-      pub front_given : (new : Option (List ℕ)) → WritesFront words.tells before new (h.asked ++ given) → WritesFront words.tells before new (requests (h.input ++ piece))
-      front_given new = subst (WritesFront words.tells before new) (sym given_all)
+      pub front_given : (new : Option (List ℕ)) → WritesPrefix words.tells before new (h.asked ++ given) → WritesPrefix words.tells before new (requests (h.input ++ piece))
+      front_given new = subst (WritesPrefix words.tells before new) (sym given_all)
 
       pub served_more : (rest new : Option (List ℕ)) (state' : S) → Consumes remaining rest piece → HasTold words before new (h.asked ++ given) state' → HasServed words left rest before new next state'
       served_more rest new state' taken told = record {

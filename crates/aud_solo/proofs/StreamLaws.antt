@@ -3,7 +3,7 @@ use Rattle.std.proofs.Common.{◌≡◌, inl, inr, ℕ, ◌+◌, ◌<◌, ◌%�
 use Rattle.std.proofs.lemmas.List.{take-append-drop}
 use Rattle.std.proofs.Math.Nat.{mod-add-mod}
 use Rattle.std.specs.Io.KnownBytes.{Appends, Consumes, Keeps}
-use Rattle.aud_solo.specs.Streams.{counted, counted_by, Grows, AppendsFirst, AppendsFront}
+use Rattle.aud_solo.specs.Streams.{counted, counted_by, Grows, AppendsFirst, AppendsPrefix}
 use Rattle.aud_solo.specs.Ties.Serving.{CountsTurns}
 
 -- bytes are written, and then the writer is flushed
@@ -69,9 +69,9 @@ written_more old middle new bytes rest n (some, h, e) k = (
   e ∙ ap (λ t. some ++ t) (sym (take-append-drop n rest)) ∙ sym (append_assoc some (take n rest) (drop n rest)),
 )
 
--- behind them a front of the others
+-- behind them a prefix of the others
 pub written_front : (old middle new : Option (List ℕ)) (bytes rest : List ℕ) → (some : List ℕ) × Appends old middle some × (bytes ≡ some ++ rest) →
-    AppendsFront middle new rest → AppendsFront old new bytes
+    AppendsPrefix middle new rest → AppendsPrefix old new bytes
 written_front old middle new bytes rest (some, h, e) (xs, ys, k, f) =
     (some ++ xs, ys, appends_more old middle new some xs h k, e ∙ ap (λ t. some ++ t) f ∙ sym (append_assoc some xs ys))
 

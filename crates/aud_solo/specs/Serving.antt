@@ -9,7 +9,7 @@ use Rattle.aud_lines.specs.Requests.{requests}
 use Rattle.aud_lines.specs.Text.{answer_text}
 use Rattle.aud_solo.specs.declared.serving.ServeFault.{ServeFault}
 use Rattle.aud_solo.specs.declared.serving.ServeFault.TheVariants as fault
-use Rattle.aud_solo.specs.Streams.{counted, AppendsFront}
+use Rattle.aud_solo.specs.Streams.{counted, AppendsPrefix}
 
 -- which text is told for which requests
 abbrev pub Telling : Type 1
@@ -34,14 +34,14 @@ memory_text = answer_text (answer.Refused refusal.OutOfMemory)
 abbrev pub WritesCut : Telling → Option (List ℕ) → Option (List ℕ) → List Request → Type 0
 WritesCut tells old new asked = (said : List ℕ) × TellsSome tells asked said × Appends old new (said ++ memory_text)
 
--- a front of what is told for some first ones is written, or of that and then that memory is out; it may end within an answer
+-- a prefix of what is told for some first ones is written, or of that and then that memory is out; it may end within an answer
 abbrev pub WritesPart : Telling → Option (List ℕ) → Option (List ℕ) → List Request → Type 0
-WritesPart tells old new asked = (said : List ℕ) × TellsSome tells asked said × (AppendsFront old new said ⊎ AppendsFront old new (said ++ memory_text))
+WritesPart tells old new asked = (said : List ℕ) × TellsSome tells asked said × (AppendsPrefix old new said ⊎ AppendsPrefix old new (said ++ memory_text))
 
 -- The call serves the requests of a reader, and writes to a writer. Where it answers Ok, all that is told for what was left to read is
 -- written, and that is what is told for what was read: what comes behind it is told nothing. Where a read failed, it is all that is told
 -- for what was read. Where memory is refused, it is what is told for some first requests of what was read, and then that memory is out;
--- where a write failed, a front of such a text.
+-- where a write failed, a prefix of such a text.
 pub record Serves {A : Type 0} (tells : Telling) (result : Result A ServeFault) (left remaining before after : Option (List ℕ)) : Type 0 where
   pub all : OnOk result (IfSome left (λ input. WritesAll tells before after (requests input)))
   pub ended : OnOk result (HasRead left remaining (λ input. WritesAll tells before after (requests input)))

@@ -22,6 +22,6 @@ Grows old new = (some : List ℕ) × Appends old new some
 abbrev pub AppendsFirst : Option (List ℕ) → Option (List ℕ) → List ℕ → Type 0
 AppendsFirst old new bytes = (rest : List ℕ) × Appends old new (bytes ++ rest)
 
--- a front of the bytes is written
-abbrev pub AppendsFront : Option (List ℕ) → Option (List ℕ) → List ℕ → Type 0
-AppendsFront old new bytes = (some rest : List ℕ) × Appends old new some × (bytes ≡ some ++ rest)
+-- a prefix of the bytes is written
+abbrev pub AppendsPrefix : Option (List ℕ) → Option (List ℕ) → List ℕ → Type 0
+AppendsPrefix old new bytes = (some rest : List ℕ) × Appends old new some × (bytes ≡ some ++ rest)

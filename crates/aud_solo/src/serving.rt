@@ -6,7 +6,7 @@ ghost use Rattle.aud_lines.specs.Ties.Begun.{nothing};
 ghost use Rattle.aud_solo.specs.declared.serving.TheConstants.{READS};
 ghost use Rattle.aud_solo.specs.declared.serving.ServeFault.TheVariants as fault;
 ghost use Rattle.aud_solo.specs.Serving.{Serves, CountsReads, CountsReadsTo, CountsWrites, memory_text};
-ghost use Rattle.aud_solo.specs.Streams.{counted, counted_by, CountsUpTo, Grows, AppendsFront};
+ghost use Rattle.aud_solo.specs.Streams.{counted, counted_by, CountsUpTo, Grows, AppendsPrefix};
 ghost use Rattle.aud_solo.specs.Ties.Serving.{Words, IsFresh, TellsNext, TellsNoMore, TellsMore, HasServed, StopsIn, ServesTurn, GoesOn, ServesSome};
 
 use crate::streams::{Sink, Source};
@@ -72,9 +72,9 @@ pub trait Attendant {
 /// # Errors
 ///
 /// - `Read` where a read fails, or one more than `READS` is needed. What is told for all that was read is written.
-/// - `Write` where a write fails, that of the last answer of `Memory` among them. A front of what was to be written stands
+/// - `Write` where a write fails, that of the last answer of `Memory` among them. A prefix of what was to be written stands
 ///   there, and it may end within an answer.
-/// - `Memory` where memory is refused. A front of the answers is written, and behind it that memory is out.
+/// - `Memory` where memory is refused. A prefix of the answers is written, and behind it that memory is out.
 pub fn serve<A: Attendant, S: Source, T: Sink>(
     alloc: Global,
     attendant: &mut A,
@@ -155,8 +155,8 @@ fn serve_pieces<A: Attendant, S: Source, T: Sink>(
 /// # Errors
 ///
 /// - `Read` where the read fails. Nothing else is done.
-/// - `Write` where a write fails. A front of the answers is written, and it may end within an answer.
-/// - `Memory` where memory is refused. A front of the answers is written.
+/// - `Write` where a write fails. A prefix of the answers is written, and it may end within an answer.
+/// - `Memory` where memory is refused. A prefix of the answers is written.
 ///
 /// Behind `Write` and `Memory` the session is not to be gone on with.
 pub fn turn<A: Attendant, S: Source, T: Sink>(
@@ -228,17 +228,14 @@ fn attend<A: Attendant, T: Sink>(
     write(writer, &said)
 }
 
-/// Writes all the bytes, by as many calls as that takes.
-///
-/// # Errors
-///
-/// `Write` where one of them fails. A front of the bytes stands there then.
-pub fn write<T: Sink>(writer: &mut T, bytes: &[u8]) -> Result<(), ServeFault>
+// Writes all the bytes, by as many calls as that takes. `Write` where one of them fails; a prefix of the bytes stands there
+// then.
+fn write<T: Sink>(writer: &mut T, bytes: &[u8]) -> Result<(), ServeFault>
     ensures all { OnOk result (Appends (T.contents writer.old) (T.contents writer.new) bytes.now) }
     ensures read { IsErrOf result fault.Read → ⊥ }
     ensures memory { IsErrOf result fault.Memory → ⊥ }
     ensures write { IsErrOf result fault.Write →
-        AppendsFront (T.contents writer.old) (T.contents writer.new) bytes.now }
+        AppendsPrefix (T.contents writer.old) (T.contents writer.new) bytes.now }
     ensures grows { Grows (T.contents writer.old) (T.contents writer.new) }
     ensures counts { CountsWrites result (T.failures writer.old) (T.failures writer.new) }
 {

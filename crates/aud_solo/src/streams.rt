@@ -3,7 +3,7 @@
 ghost use Rattle.std.specs.Prelude.{◌≡◌, ◌≢◌, ◌↔◌, ℕ, ◌-◌, ◌<◌, ◌≤◌, List, Option, Some, length, take, IsTrue, IfOk, SomeIff, MatchResult};
 ghost use Rattle.std.specs.Io.{ReadsAtMost, WritesAtMost};
 ghost use Rattle.std.specs.Io.KnownBytes.{Appends, Keeps, ReadConsumes, WriteAppends};
-ghost use Rattle.aud_solo.specs.Streams.{counted, AppendsFront};
+ghost use Rattle.aud_solo.specs.Streams.{counted, AppendsPrefix};
 ghost use Rattle.aud_solo.specs.Ties.Fuses.{IsOneCallOn};
 
 use std::io::{self, ErrorKind, Read, Write};
@@ -21,7 +21,7 @@ pub trait Source {
 
     ghost failures: { Self → ℕ };
 
-    /// Reads bytes into the front of the piece, and tells how many: none only at the end, or where the piece is empty.
+    /// Reads bytes into the beginning of the piece, and tells how many: none only at the end, or where the piece is empty.
     ///
     /// # Errors
     ///
@@ -43,7 +43,7 @@ pub trait Sink {
 
     ghost failures: { Self → ℕ };
 
-    /// Writes bytes of the front, hands them on at once, and tells how many: one at least.
+    /// Writes a prefix, hands them on at once, and tells how many: one at least.
     ///
     /// # Errors
     ///
@@ -53,7 +53,7 @@ pub trait Sink {
         ensures some { IfOk result (λ n. (1 ≤ n) × (n ≤ length bytes.now)) }
         ensures bytes { MatchResult result
             (λ n. Appends (contents self.old) (contents self.new) (take n bytes.now))
-            (λ _. AppendsFront (contents self.old) (contents self.new) bytes.now) }
+            (λ _. AppendsPrefix (contents self.old) (contents self.new) bytes.now) }
         ensures calls { calls self.new ≡ counted (calls self.old) }
         ensures failures { MatchResult result (λ _. failures self.new ≡ failures self.old)
             (λ _. failures self.new ≡ counted (failures self.old)) };
@@ -134,13 +134,13 @@ fn read<R: Read>(reader: &mut R, piece: &mut [u8]) -> Result<usize, Failed>
     Err(Failed)
 }
 
-// Writes a front and flushes it.
+// Writes a prefix and flushes it.
 fn write<W: Write>(writer: &mut W, bytes: &[u8]) -> Result<usize, Failed>
     requires { 0 < length bytes.now }
     ensures some { IfOk result (λ n. (1 ≤ n) × (n ≤ length bytes.now)) }
     ensures bytes { MatchResult result
         (λ n. Appends (W.contents writer.old) (W.contents writer.new) (take n bytes.now))
-        (λ _. AppendsFront (W.contents writer.old) (W.contents writer.new) bytes.now) }
+        (λ _. AppendsPrefix (W.contents writer.old) (W.contents writer.new) bytes.now) }
 {
     let count = write_once(writer, bytes)?;
     match writer.flush() {

@@ -7,7 +7,7 @@ use Rattle.aud_bench.specs.Seen.{Seen as Bench, told}
 use Rattle.aud_hall.specs.declared.why.Why.{Why}
 use Rattle.aud_hall.specs.Seats.{Seat, has_closed, submitting, submitted, sending_by, sending, sent, collected}
 use Rattle.aud_hall.specs.CheckIns.{judged, checked}
-use Rattle.aud_hall.specs.Numbered.{IsFront}
+use Rattle.aud_hall.specs.Numbered.{IsPrefix}
 use Rattle.aud_worlds.specs.Session.{Part, Own, Began, Submitted, SentOut, Sliced, Returned, Strayed, Collected, Freed, Held, bench_at, acts, at_held, own_sending, own_slicing, own_checking, asked, session_from, none_yet}
 use Rattle.aud_worlds.specs.Mine.{mine}
 use Rattle.aud_worlds.specs.Headline.{IsCalm, IsAmple, AmpleLaw}
@@ -80,4 +80,4 @@ ample_law limits events k n h calm e =
     let alive : has_closed h.seat.home ≡ false = subst IsOpen (held_own limits events k n h e) (open_is none_yet (mine k n limits events) calm tt) in
     let front = law.1.so_far.0 in
     let outbox_is : h.seat.outbox ≡ front = law.1.so_far.1 ∙ ap (λ c. front ++ told c) alive ∙ append-nil front in
-    subst (λ xs. IsFront xs (alone h.limits (asked (mine k n limits events)))) (sym outbox_is) law.1.so_far.2
+    subst (λ xs. IsPrefix xs (alone h.limits (asked (mine k n limits events)))) (sym outbox_is) law.1.so_far.2

@@ -10,7 +10,7 @@ use Rattle.aud_bench.specs.Seen.{Seen as Bench, has_quit}
 use Rattle.aud_hall.specs.declared.why.Why.TheVariants.{OtherLimits, Behind}
 use Rattle.aud_hall.specs.Slices.{answered, given, done, sliced}
 use Rattle.aud_hall.specs.Seats.{Seat, Sending, has_closed, submitting, submitted, sends, sending_by, sending, sent}
-use Rattle.aud_hall.specs.Numbered.{one_on, IsFront}
+use Rattle.aud_hall.specs.Numbered.{one_on, IsPrefix}
 use Rattle.aud_hall.specs.CheckIns.{first_difference, not_awaited, or_differs, judged}
 use Rattle.aud_hall.specs.Ties.Right.{IsHome, IsMade, IsRight}
 use Rattle.aud_worlds.specs.Headline.{now_is}
@@ -60,7 +60,7 @@ submitted_awaited limits r false true refused b s a = a
 submitted_awaited limits r false false true b s a = a
 submitted_awaited limits r false false false b s a = record { limits_are = a.limits_are; front = front_on b.journal s.requests r a.front; out = a.out; ahead = a.ahead; joins = a.joins }
 
-first_front : (journal requests : List Request) → IsFront journal requests → first_difference journal requests ≡ None
+first_front : (journal requests : List Request) → IsPrefix journal requests → first_difference journal requests ≡ None
 first_front [] requests f = refl
 first_front (x ∷ journal) [] f = let never : [] ≡ x ∷ (journal ++ f.0) = f.1 in absurd (cc)
 first_front (x ∷ journal) (r ∷ requests) f =

@@ -12,7 +12,7 @@ use Rattle.aud_hall.specs.Replies.{Worked}
 use Rattle.aud_hall.specs.Seats.{Seat, has_closed, submitting, submitted, sends, sending_by, sending, sent, collected}
 use Rattle.aud_hall.specs.CheckIns.{judged, checked}
 use Rattle.aud_hall.specs.Halls.{Place, place_at}
-use Rattle.aud_hall.specs.Numbered.{IsFront}
+use Rattle.aud_hall.specs.Numbered.{IsPrefix}
 use Rattle.aud_hall.specs.Ties.Right.{IsHome, IsMade, IsRight, IsRightSeat}
 use Rattle.aud_worlds.specs.World.{World, Event, beginning, after_all, happens, slicing}
 use Rattle.aud_worlds.specs.Session.{Part, Own, Began, Submitted, SentOut, Sliced, Returned, Strayed, Collected, Freed, Held, Course, bench_at, acts, accepted, at_held, own_sending, own_slicing, own_checking, asked_from, asked, session_from, none_yet}
@@ -37,7 +37,7 @@ world_law limits events = all_right (beginning limits) events (beginning_right l
 so_far : (limits : Limits) (s : Seat) → IsRight limits s → IsBeginning limits s.requests s
 so_far limits s right = by s.home right.bench
   where
-    by : (o : Option Bench) → IsMade limits s o → (front : List Answer) × (s.outbox ≡ front ++ told (has_closed o)) × IsFront front (alone limits s.requests)
+    by : (o : Option Bench) → IsMade limits s o → (front : List Answer) × (s.outbox ≡ front ++ told (has_closed o)) × IsPrefix front (alone limits s.requests)
     by None m = (s.outbox, sym (append-nil s.outbox), away_front limits s right.kept m)
     by (Some b) m = (made limits b.journal b.units, m.outbox, front_of_alone limits b.journal s.requests b.units (begins_front b.journal s.requests m.front) m.within right.kept)
 

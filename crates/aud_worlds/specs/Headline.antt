@@ -5,7 +5,7 @@ use Rattle.aud_bench.specs.declared.request.Request.{Request}
 use Rattle.aud_bench.specs.declared.request.Answer.{Answer}
 use Rattle.aud_bench.specs.Alone.{alone, cost}
 use Rattle.aud_bench.specs.Seen.{Seen as Bench, told, unanswered}
-use Rattle.aud_hall.specs.Numbered.{IsFront}
+use Rattle.aud_hall.specs.Numbered.{IsPrefix}
 use Rattle.aud_hall.specs.Slices.{lesser, sliced}
 use Rattle.aud_hall.specs.Replies.{Reply, Worked, Taken}
 use Rattle.aud_hall.specs.Seats.{Seat, has_closed}
@@ -14,10 +14,10 @@ use Rattle.aud_worlds.specs.World.{World, Event, Slice, happens, after_all, begi
 use Rattle.aud_worlds.specs.Session.{Held, Part, Own, SentOut, Returned, acts, none_yet, session, asked}
 use Rattle.aud_worlds.specs.Mine.{Track, outset, track_from, part_of, mine, mine_from, replies_from}
 
--- the answers so far are a front of those of a private server, and where memory was refused to the bench that is at home, that is
+-- the answers so far are a prefix of those of a private server, and where memory was refused to the bench that is at home, that is
 -- the last one
 abbrev pub IsBeginning : Limits → List Request → Seat → Type 0
-IsBeginning limits requests s = (front : List Answer) × (s.outbox ≡ front ++ told (has_closed s.home)) × IsFront front (alone limits requests)
+IsBeginning limits requests s = (front : List Answer) × (s.outbox ≡ front ++ told (has_closed s.home)) × IsPrefix front (alone limits requests)
 
 -- no work is in hand: the bench is at home, and all units are done that the requests cost
 abbrev pub IsIdle : Limits → List Request → Seat → Type 0
@@ -86,7 +86,7 @@ abbrev pub IsAmple : Part → List Own → Type 0
 IsAmple p [] = Unit {0}
 IsAmple p (o ∷ os) = IsCalm o (acts o p).reply × IsAmple (acts o p).now os
 
--- then its answers are a front of those of a private server, and nothing else
+-- then its answers are a prefix of those of a private server, and nothing else
 abbrev pub AmpleLaw : Type 0
 AmpleLaw = (limits : List Limits) (events : List Event) (k n : ℕ) (h : Held) → IsAmple none_yet (mine k n limits events) → (part_is k n limits events).held ≡ Some h
-    → IsFront h.seat.outbox (alone h.limits (asked (mine k n limits events)))
+    → IsPrefix h.seat.outbox (alone h.limits (asked (mine k n limits events)))

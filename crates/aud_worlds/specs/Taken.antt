@@ -4,7 +4,7 @@ use Rattle.aud_text.specs.declared.limits.Limits.{Limits}
 use Rattle.aud_bench.specs.declared.request.Request.{Request}
 use Rattle.aud_bench.specs.Alone.{cost, made}
 use Rattle.aud_bench.specs.Seen.{Seen as Bench, told}
-use Rattle.aud_hall.specs.Numbered.{IsFront}
+use Rattle.aud_hall.specs.Numbered.{IsPrefix}
 use Rattle.aud_hall.specs.Replies.{Reply, Accepted, Taken}
 use Rattle.aud_hall.specs.Seats.{Seat, has_closed}
 use Rattle.aud_hall.specs.Halls.{Place, place_at}
@@ -50,10 +50,10 @@ last_from k last w (e ∷ es) = last_from k (last_after k last w e) (happens e w
 abbrev pub last_is : (k : ℕ) → List Limits → List Event → Last
 last_is k limits events = last_from k nothing_done (beginning limits) events
 
--- the answers are exactly what its units make of its requests, which are a front of those that are stored; where memory was refused to the
+-- the answers are exactly what its units make of its requests, which are a prefix of those that are stored; where memory was refused to the
 -- bench that is at home, that is told besides
 pub record IsOfLast (limits : Limits) (last : Last) (s : Seat) : Type 0 where
-  pub front : IsFront last.journal s.requests
+  pub front : IsPrefix last.journal s.requests
   pub within : last.units ≤ cost limits last.journal
   pub outbox : s.outbox ≡ made limits last.journal last.units ++ told (has_closed s.home)
 

@@ -41,7 +41,7 @@ pub fn two_worlds_law()
 {}
 
 /// Where no memory is refused as a session's bench is given its requests, and no bench that has closed is taken in at its
-/// seat, its answers are a front of those of a private server and nothing else.
+/// seat, its answers are a prefix of those of a private server and nothing else.
 pub fn ample_law()
     ensures { AmpleLaw }
 {}

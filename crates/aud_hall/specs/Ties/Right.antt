@@ -8,7 +8,7 @@ use Rattle.aud_bench.specs.Seen.{Seen as Bench, told}
 use Rattle.aud_hall.specs.Slices.{answered}
 use Rattle.aud_hall.specs.Seats.{Seat}
 
--- a list is a front of another one: as an equation, of which there is one proof at most
+-- a list is a prefix of another one: as an equation, of which there is one proof at most
 abbrev pub Begins : {A : Type 0} → List A → List A → Type 0
 Begins front whole = take (length front) whole ≡ front
 
@@ -18,7 +18,7 @@ pub record IsTrue (b : Bench) : Type 0 where
   pub taken : b.taken ≤ answered b
   pub short : b.spent ≡ true → answered b < length b.journal
 
--- the outbox is what the bench at home has made of its journal, which is a front of the stored requests
+-- the outbox is what the bench at home has made of its journal, which is a prefix of the stored requests
 pub record IsHome (limits : Limits) (s : Seat) (b : Bench) : Type 0 where
   pub limits_are : b.limits ≡ limits
   pub front : Begins b.journal s.requests
@@ -27,7 +27,7 @@ pub record IsHome (limits : Limits) (s : Seat) (b : Bench) : Type 0 where
   pub taken : b.taken ≡ length s.outbox
   pub short : b.spent ≡ true → length (made limits b.journal b.units) < length s.requests
 
--- while the bench is out, the outbox is what some units make of a front of the stored requests
+-- while the bench is out, the outbox is what some units make of a prefix of the stored requests
 pub record IsAway (limits : Limits) (s : Seat) : Type 0 where
   pub journal : List Request
   pub units : ℕ

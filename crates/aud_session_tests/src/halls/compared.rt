@@ -21,12 +21,12 @@ use std::alloc::Global;
 const OUT_OF_MEMORY: &str = "- E90 out of memory\n";
 
 /// What a hall answers otherwise to a session of calls than is written, if anything, or an outbox that it leaves which
-/// is no front of the private server's answers.
+/// is no prefix of the private server's answers.
 ///
 /// # Errors
 ///
 /// `Call` where a line is no call; `Memory` where memory is refused. If it is refused to the hall, what is answered up
-/// to there is looked at, and each outbox must be a front all the same, with at most one answer more that tells it.
+/// to there is looked at, and each outbox must be a prefix all the same, with at most one answer more that tells it.
 pub fn look_at(alloc: Global, session: &Session) -> Result<Option<String>, Fault> {
     let Calls { limits, events } = calls_of(alloc, session)?;
     let seats = limits.to_vec(alloc)?;
@@ -131,7 +131,7 @@ fn ends_with_memory(answers: &[Answer]) -> bool {
     matches!(answers.last(), Some(Answer::Refused(Refusal::OutOfMemory)))
 }
 
-// The first outbox that is no front of the private server's answers.
+// The first outbox that is no prefix of the private server's answers.
 fn other_outbox(
     alloc: Global,
     limits: &[Limits],
@@ -140,15 +140,15 @@ fn other_outbox(
 ) -> Result<Option<String>, Fault> {
     for (place, limits) in limits.iter().enumerate() {
         let seat = place.saturating_add(1);
-        if !is_front(alloc, hall, seat, *limits, is_refused)? {
+        if !is_prefix(alloc, hall, seat, *limits, is_refused)? {
             return Ok(Some(format!(in alloc; "the outbox of seat {seat}")?));
         }
     }
     Ok(None)
 }
 
-// Whether the answers at a seat are a front of the private server's, but for a last one by which memory may be refused.
-fn is_front(
+// Whether the answers at a seat are a prefix of the private server's, but for a last one by which memory may be refused.
+fn is_prefix(
     alloc: Global,
     hall: &Hall,
     seat: usize,
@@ -161,7 +161,7 @@ fn is_front(
     let all = alone(alloc, limits, asked)?;
     let found = texts(alloc, &hall.collect(alloc, seat, 0)?)?;
     match found.strip_suffix(OUT_OF_MEMORY) {
-        Some(front) if may_be_refused => Ok(all.starts_with(front)),
+        Some(prefix) if may_be_refused => Ok(all.starts_with(prefix)),
         _ => Ok(all.starts_with(found.as_str())),
     }
 }

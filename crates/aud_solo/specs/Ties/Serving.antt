@@ -8,7 +8,7 @@ use Rattle.aud_solo.specs.declared.serving.TheConstants.{PIECE}
 use Rattle.aud_solo.specs.declared.serving.ServeFault.{ServeFault}
 use Rattle.aud_solo.specs.declared.serving.ServeFault.TheVariants as fault
 use Rattle.aud_solo.specs.Serving.{Telling, HasRead, WritesAll, TellsSome}
-use Rattle.aud_solo.specs.Streams.{counted_by, AppendsFirst, AppendsFront}
+use Rattle.aud_solo.specs.Streams.{counted_by, AppendsFirst, AppendsPrefix}
 
 -- what those in states of a type tell
 pub record Words (S : Type 0) : Type 1 where
@@ -42,18 +42,18 @@ pub record HasTold {S : Type 0} (words : Words S) (before now : Option (List ℕ
   pub tells : words.tells asked told
   pub written : Appends before now told
 
--- what is told for some first requests is written; or a front of it
+-- what is told for some first requests is written; or a prefix of it
 abbrev pub WritesSome : Telling → Option (List ℕ) → Option (List ℕ) → List Request → Type 0
 WritesSome tells old new asked = (said : List ℕ) × TellsSome tells asked said × Appends old new said
 
-abbrev pub WritesFront : Telling → Option (List ℕ) → Option (List ℕ) → List Request → Type 0
-WritesFront tells old new asked = (said : List ℕ) × TellsSome tells asked said × AppendsFront old new said
+abbrev pub WritesPrefix : Telling → Option (List ℕ) → Option (List ℕ) → List Request → Type 0
+WritesPrefix tells old new asked = (said : List ℕ) × TellsSome tells asked said × AppendsPrefix old new said
 
 -- these requests are told of; where memory is refused, or a write failed, some first ones
 pub record TellsTo {S A : Type 0} (words : Words S) (result : Result A ServeFault) (before now : Option (List ℕ)) (asked : List Request) (state : S) : Type 0 where
   pub all : OnOk result (HasTold words before now asked state)
   pub memory : IsErrOf result fault.Memory → WritesSome words.tells before now asked
-  pub write : IsErrOf result fault.Write → WritesFront words.tells before now asked
+  pub write : IsErrOf result fault.Write → WritesPrefix words.tells before now asked
 
 -- whatever was asked and told before
 abbrev pub TellsMore : {S A : Type 0} → Words S → Result A ServeFault → (old new : Option (List ℕ)) → List Request → (state next : S) → Type 0
@@ -82,12 +82,12 @@ pub record StopsIn {S : Type 0} (words : Words S) (left remaining before now : O
   pub short : length piece ≤ PIECE
 
 -- What a turn makes of what was served before it. Behind that, all that has come with this turn is served; where its read failed, there is
--- nothing more. Where memory is refused, or a write failed, it is read, and a front of what is told for it is written.
+-- nothing more. Where memory is refused, or a write failed, it is read, and a prefix of what is told for it is written.
 pub record ServesTurn {S A : Type 0} (words : Words S) (result : Result A ServeFault) (left remaining before now : Option (List ℕ)) (feed : Begun) (state : S) : Type 0 where
   pub served : OnOk result (HasServed words left remaining before now feed state)
   pub read : IsErrOf result fault.Read → HasServed words left remaining before now feed state
   pub memory : IsErrOf result fault.Memory → HasRead left remaining (λ input. WritesSome words.tells before now (requests input))
-  pub write : IsErrOf result fault.Write → HasRead left remaining (λ input. WritesFront words.tells before now (requests input))
+  pub write : IsErrOf result fault.Write → HasRead left remaining (λ input. WritesPrefix words.tells before now (requests input))
   pub stops : StopsIn words left remaining before now
 
 -- whether another turn is due: not where nothing more is told, nor at the end of what is read
@@ -101,7 +101,7 @@ pub record ServesSome {A : Type 0} (tells : Telling) (result : Result A ServeFau
   pub ended : OnOk result (HasRead left remaining (λ input. WritesAll tells before after (requests input)))
   pub read : IsErrOf result fault.Read → HasRead left remaining (λ input. WritesAll tells before after (requests input))
   pub memory : IsErrOf result fault.Memory → HasRead left remaining (λ input. WritesSome tells before after (requests input))
-  pub write : IsErrOf result fault.Write → HasRead left remaining (λ input. WritesFront tells before after (requests input))
+  pub write : IsErrOf result fault.Write → HasRead left remaining (λ input. WritesPrefix tells before after (requests input))
 
 -- the calls of a reader before and after so many turns, each of one call
 abbrev pub CountsTurns : ℕ → ℕ → ℕ → Type 0

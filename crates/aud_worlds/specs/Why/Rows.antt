@@ -88,7 +88,7 @@ TwoPrograms = gives two
 
 -- ## Parcels that come to where nobody waits for them
 
--- a parcel of the session before is taken in by the next one at its seat, where it is a front of what that one asked
+-- a parcel of the session before is taken in by the next one at its seat, where it is a prefix of what that one asked
 abbrev pub OfTheSessionBefore : Type 0
 OfTheSessionBefore = gives four
     (Claim 3 false ∷ Submit 3 Output false ∷ SendOut 3 None ∷ Free 3

@@ -1,7 +1,7 @@
 use Rattle.std.proofs.Common.{rules, ◌≡◌, [], ◌∷◌, subst}
 use Rattle.std.proofs.lemmas.Result.{on_ok_weaker}
 use Rattle.std.specs.Io.KnownBytes.{Appends}
-use Rattle.aud_solo.specs.Streams.{AppendsFront}
+use Rattle.aud_solo.specs.Streams.{AppendsPrefix}
 use Rattle.aud_solo.proofs.StreamLaws.{grows_none}
 use Rattle.aud_solo.proofs.ServingLaws.{some_told, told_still, told_next, front_told}
 use Rattle.aud_solo.proofs.serving.attend.Goals as goal
@@ -36,7 +36,7 @@ returns-clause-tells g c =
     λ before asked told. record {
       all = on_ok_weaker c.write.result (λ k. told_next words before old asked state told r said next c.in_ok-said.ensures new (subst (Appends old new) value k)) c.write.ensures.all;
       memory = search rules;
-      write = λ e. front_told words before old asked state told r said next c.in_ok-said.ensures new (subst (AppendsFront old new) value (c.write.ensures.write e));
+      write = λ e. front_told words before old asked state told r said next c.in_ok-said.ensures new (subst (AppendsPrefix old new) value (c.write.ensures.write e));
     }
 
 pub returns-then-is_over-clause-grows : goal.returns-then-is_over-clause-grows
