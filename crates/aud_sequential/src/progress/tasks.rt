@@ -55,6 +55,7 @@ impl Progress {
         ensures used { IfSome result (λ choice.
             self.old.choices ≡ choice ∷ self.new.choices) }
         ensures none { IfNone result (self.old.choices ≡ []) }
+        ensures still { IfNone result (self.new ≡ self.old) }
         ensures kept { self.new ≡ record self.old { choices = self.new.choices } }
     {
         self.choices.pop_front()

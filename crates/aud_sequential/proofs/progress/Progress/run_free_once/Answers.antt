@@ -2,7 +2,8 @@ use Rattle.std.proofs.Common.{◌≡◌, ◌+◌, ℕ, reverse, sym, ap, ◌∙�
 use Rattle.aud_meaning.specs.Ties.Part.{Part}
 use Rattle.aud_code.specs.Places.{Spot, goes}
 use Rattle.aud_sequential.specs.Fast.{Free, led, RunsFast}
-use Rattle.aud_sequential.specs.Parked.{Parked, acting}
+use Rattle.aud_store.specs.Ties.Stored.{Stored}
+use Rattle.aud_sequential.specs.Parked.{Parked, acting, parked}
 use Rattle.aud_sequential.proofs.FastRuns.{runs_fast}
 use Rattle.aud_sequential.proofs.progress.Progress.run_free_once.Goals as goal
 use Rattle.aud_sequential.proofs.progress.Progress.run_free_once.Goals.{After-single_run-run}
@@ -32,6 +33,12 @@ free c = record {
 abbrev with_steps : (c : After-single_run-run) → ℕ → Part Spot
 with_steps c n = record (before c) { control = goes c.single_run-run.result.place (before c).control; frames = c.single_run-run.new.store.frames; steps = n }
 
+-- what lies in the progress meanwhile
+abbrev own : (c : After-single_run-run) → Parked
+own c =
+    let all = c.self.inside in
+    record { control = record { place = all.place; returns = reverse all.returns.items }; pending = all.pending; stack = all.store.stack }
+
 pub returns : goal.returns
 returns c =
     let there = (goal.at.returns c).After-single_run-run in
@@ -40,4 +47,7 @@ returns c =
     let new = c.single_run-run.new.store.frames in
     let steps : c.self.inside.steps + run.steps ≡ run.steps + c.self.inside.steps = omega arith in
     let fast = runs_fast code 1 c.task.inside.place c.innermost_number-innermost.result c.display-display.result.now c.self.inside.store.frames new (before there) (with_steps there (c.self.inside.steps + run.steps)) run (free there) c.single_run-run.ensures.done c.single_run-run.ensures.few (ap (with_steps there) steps) in
-    record { runs = subst (λ p. RunsFast code 1 p (with_steps there (c.self.inside.steps + run.steps)) run) (acts_so there) fast }
+    record {
+      runs = subst (λ p. RunsFast code 1 p (with_steps there (c.self.inside.steps + run.steps)) run) (acts_so there) fast;
+      here = ap (λ (s : Stored). record (own there) { stack = s.stack }) c.single_run-run.ensures.same ∙ ap parked c.self.view_is;
+    }

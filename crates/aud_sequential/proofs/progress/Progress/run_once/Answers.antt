@@ -11,4 +11,5 @@ returns c = record {
     within = omega arith;
     few = omega arith;
   };
+  here = refl;
 }
