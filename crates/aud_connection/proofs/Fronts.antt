@@ -1,5 +1,5 @@
 -- What is told begins with answers of a private server, up to the first refusal of the desk.
-use Rattle.std.proofs.Common.{◌≡◌, ◌⊎◌, inl, inr, List, [], ◌∷◌, ◌++◌, length, Some, true, refl, sym, ap, ap₂, ◌∙◌, subst, arith, append-nil, length-append}
+use Rattle.std.proofs.Common.{◌≡◌, ◌⊎◌, inl, inr, List, [], ◌∷◌, ◌++◌, length, Option, Some, None, true, refl, sym, ap, ap₂, ◌∙◌, subst, arith, append-nil, length-append}
 use Rattle.aud_text.specs.declared.limits.Limits.{Limits}
 use Rattle.aud_bench.specs.declared.request.Request.{Request}
 use Rattle.aud_bench.specs.declared.request.Answer.{Answer}
@@ -9,8 +9,8 @@ use Rattle.aud_pass.proofs.Overs.{front_more}
 use Rattle.aud_pass.specs.declared.fault.DeskFault.{DeskFault}
 use Rattle.aud_pass.specs.declared.fault.DeskFault.TheVariants as fault
 use Rattle.aud_pass.specs.Passed.{IsPrefix, Passed}
-use Rattle.aud_pass.specs.Replies.{IsLost, HasNoSeat, OpensNot, FitsBy}
-use Rattle.aud_connection.specs.Told.{Told, Answered, Faulted, all_answered, are_answers, AreLost}
+use Rattle.aud_pass.specs.Replies.{IsLost, not_opened, OpensNot, FitsBy}
+use Rattle.aud_connection.specs.Told.{Told, all_answered, are_answers}
 use Rattle.aud_connection.specs.Served.{Begins}
 use Rattle.aud_connection.specs.Ties.Visits.{Ends}
 
@@ -54,16 +54,6 @@ module _ (limits : Limits) where
 
 -- ---- refusals
 
-pub lost_answer : (told : List Told) (a : Answer) → AreLost told → AreLost (told ++ Answered a ∷ [])
-lost_answer [] a h = tt
-lost_answer (Answered x ∷ told) a h = lost_answer told a h
-lost_answer (Faulted f ∷ told) a (l, h) = (l, lost_answer told a h)
-
-pub lost_fault : (told : List Told) (f : DeskFault) → AreLost told → IsLost f → AreLost (told ++ Faulted f ∷ [])
-lost_fault [] f h k = (k, tt)
-lost_fault (Answered x ∷ told) f h k = lost_fault told f h k
-lost_fault (Faulted g ∷ told) f (l, h) k = (l, lost_fault told f h k)
-
 -- what keeps a request back, but that it does not fit or memory is out
 pub fits_lost : (f : DeskFault) (p : Passed) (r : Request) → FitsBy (Some f) p r → (f ≡ fault.Memory → ⊥) → (f ≡ fault.Full → ⊥) → IsLost f
 fits_lost fault.NoSuchSeat p r h m o = tt
@@ -81,10 +71,8 @@ ends_lost fault.SeatInUse h m = absurd h
 ends_lost fault.Full h m = absurd h
 ends_lost fault.Memory h m = absurd (m refl)
 
-pub opens_not : (f : DeskFault) → OpensNot f → (f ≡ fault.Memory → ⊥) → HasNoSeat f
-opens_not fault.NoSuchSeat h m = tt
-opens_not fault.SeatInUse h m = tt
-opens_not fault.NotClaimed h m = absurd h
-opens_not (fault.NotThisDesk place) h m = absurd h
-opens_not fault.Full h m = absurd h
-opens_not fault.Memory h m = absurd (m refl)
+-- why a seat is not opened, where memory is not out
+pub opens_not : (seat : Option Limits) (f : DeskFault) → OpensNot seat f → (f ≡ fault.Memory → ⊥) → f ≡ not_opened seat
+opens_not None f is m = is
+opens_not (Some limits) f (inl out) m = absurd (m out)
+opens_not (Some limits) f (inr is) m = is

@@ -1,4 +1,5 @@
 pub mod Following
 pub mod Fronts
+pub mod Greeted
 pub mod Texts
 pub mod Visits

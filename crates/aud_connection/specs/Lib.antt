@@ -1,3 +1,4 @@
+pub mod Greeting
 pub mod Told
 pub mod Served
 pub mod Ties

@@ -1,15 +1,15 @@
 // What is told for each request of a connection.
 
-ghost use Rattle.std.specs.Prelude.{◌≡◌, ◌++◌, [], ◌∷◌, false, true, Some, None, length, IfOk, OnOk};
+ghost use Rattle.std.specs.Prelude.{◌≡◌, false, Some, None, IfOk};
 ghost use Rattle.aud_bench.specs.Alone.{is_quit};
 ghost use Rattle.aud_connection.specs.Told.{Told, told_text};
 ghost use Rattle.aud_connection.specs.Ties.Visits.{Finishes, Converses, Admits, Replies};
-ghost use Rattle.aud_pass.specs.Replies.{IsWhole};
 
 use crate::told::fault_text;
 use aud_bench::journal::is_quit;
 use aud_bench::request::{Answer, Request};
 use aud_desk::desk::Desk;
+use aud_desk::seating::Seating;
 use aud_lines::answers::answer_text;
 use aud_pass::fault::DeskFault;
 use aud_pass::pass::Pass;
@@ -41,14 +41,14 @@ impl Visit {
     /// # Errors
     ///
     /// Where memory is refused.
-    pub fn reply<R: Wait>(
+    pub fn reply<R: Wait, D: Seating>(
         &mut self,
         rt: &R,
         alloc: Global,
-        desk: &Desk,
+        desk: &Desk<D>,
         request: &Request,
     ) -> Result<Vec<u8>, AllocError>
-        ensures { IfOk result (λ text. Replies request.now self.old text.items self.new) }
+        ensures { IfOk result (λ text. Replies D.limits request.now self.old text.items self.new) }
     {
         match &mut self.pass {
             Some(pass) => {
@@ -61,15 +61,15 @@ impl Visit {
 }
 
 // Takes a seat, or says why not.
-fn admit<R: Wait>(
+fn admit<R: Wait, D: Seating>(
     rt: &R,
     alloc: Global,
-    desk: &Desk,
+    desk: &Desk<D>,
     pass: &mut Option<Pass>,
     request: &Request,
 ) -> Result<Vec<u8>, AllocError>
     requires { pass.old ≡ None }
-    ensures { IfOk result (λ text. Admits request.now text.items pass.new) }
+    ensures { IfOk result (λ text. Admits D.limits request.now text.items pass.new) }
 {
     let Request::Seat(number) = request else {
         return fault_text(alloc, DeskFault::NotClaimed);
@@ -85,10 +85,10 @@ fn admit<R: Wait>(
 }
 
 // Sends a request, and gives the text of its answer.
-fn converse<R: Wait>(
+fn converse<R: Wait, D: Seating>(
     rt: &R,
     alloc: Global,
-    desk: &Desk,
+    desk: &Desk<D>,
     pass: &mut Pass,
     request: &Request,
 ) -> Result<Vec<u8>, AllocError>
@@ -116,7 +116,12 @@ fn converse<R: Wait>(
 }
 
 // Waits until all that was sent is answered.
-fn finish<R: Wait>(rt: &R, alloc: Global, desk: &Desk, pass: &mut Pass) -> Result<(), DeskFault>
+fn finish<R: Wait, D: Seating>(
+    rt: &R,
+    alloc: Global,
+    desk: &Desk<D>,
+    pass: &mut Pass,
+) -> Result<(), DeskFault>
     ensures { Finishes result pass.old pass.new }
 {
     for _ in rt.forever() {

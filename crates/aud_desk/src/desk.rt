@@ -1,10 +1,13 @@
 // The desk: what many threads share.
 
 ghost use Rattle.std.specs.Prelude.{◌≡◌, ◌++◌, [], ◌∷◌, IfOk, IfErr, OnOk, OnErr};
-ghost use Rattle.aud_pass.specs.Passed.{Passed, IsGot, IsOpened};
-ghost use Rattle.aud_pass.specs.Replies.{Collects, IsNotBusy, IsLost, OpensNot, Tells};
+ghost use Rattle.aud_hall.specs.Halls.{limits_of};
+ghost use Rattle.aud_pass.specs.Passed.{IsGot};
+ghost use Rattle.aud_pass.specs.Replies.{Collects, IsNotBusy, IsLost, Tells};
+ghost use Rattle.aud_desk.specs.Opened.{Opens};
 
 use crate::gate::{Direct, Gate, work_off};
+use crate::seating::{Seated, Seating};
 use aud_bench::request::Request;
 use aud_hall::hall::Hall;
 use aud_hall::parcel::Parcel;
@@ -12,9 +15,11 @@ use aud_pass::fault::DeskFault;
 use aud_pass::got::Got;
 use aud_pass::pass::Pass;
 use aud_pass::sections::{close_in, collect_in, open_in, return_in, submit_in};
+use aud_text::limits::Limits;
 use crossbeam_channel::{Receiver, Sender};
 use std::alloc::{AllocError, Global};
 use std::array;
+use std::marker::PhantomData;
 use std::sync::{Condvar, Mutex, Wait};
 
 // A change at one seat wakes nobody who waits at another, in a hall of at most so many seats.
@@ -22,11 +27,11 @@ const BELLS: usize = 64;
 
 /// A hall that many threads share, and the parcels that wait for a worker.
 ///
-/// A user opens a seat and has a pass then, by which requests are sent and answers are got. Workers work on parcels without the
+/// Its type says which limits its seats have (`Seating`). A user opens a seat and has a pass then, by which requests are sent and answers are got. Workers work on parcels without the
 /// lock. What of it all a user is told is right whatever the others do; nothing is promised of when, or whether, it is told.
 #[derive(Drop)]
-pub struct Desk {
-    hall: Mutex<Hall>,
+pub struct Desk<D: Seating> {
+    hall: Mutex<Seated<D>>,
     // None once the desk has stopped. Never locked together with the hall.
     orders: Mutex<Option<Sender<Parcel>>>,
     parcels: Receiver<Parcel>,
@@ -34,32 +39,47 @@ pub struct Desk {
     changed: [Condvar; BELLS],
 }
 
-impl Desk {
-    /// A desk of this hall, without workers.
+impl<D: Seating> Desk<D> {
+    /// A desk of this hall, whose seats have the limits that the desk's type says, without workers.
     ///
     /// # Errors
     ///
     /// Where memory is refused.
-    pub fn new(alloc: Global, hall: Hall) -> Result<Desk, AllocError> {
+    pub fn new(alloc: Global, hall: Hall) -> Result<Desk<D>, AllocError>
+        requires { limits_of hall ≡ D.limits }
+    {
         let (orders, parcels) = crossbeam_channel::unbounded(alloc)?;
         Ok(Desk {
-            hall: Mutex::new(hall),
+            hall: Mutex::new(Seated {
+                hall,
+                of: PhantomData,
+            }),
             orders: Mutex::new(Some(orders)),
             parcels,
             changed: array::from_fn(|_| Condvar::new()),
         })
     }
 
-    /// Begins a session at a seat, and gives a pass of it.
+    /// The limits of its seats, in the order of their numbers.
+    ///
+    /// # Errors
+    ///
+    /// Where memory is refused.
+    pub fn limits<R: Wait>(&self, rt: &R, alloc: Global) -> Result<Vec<Limits>, AllocError>
+        ensures { IfOk result (λ limits. limits.items ≡ D.limits) }
+    {
+        Vec::from_slice(alloc, self.hall.lock(rt).hall.limits())
+    }
+
+    /// Begins a session at a seat, and gives a pass of it, with the limits of the seat.
     ///
     /// # Errors
     ///
     /// The first that holds of: the desk has no such seat; a session is under way there; memory is refused.
     pub fn open<R: Wait>(&self, rt: &R, alloc: Global, seat: usize) -> Result<Pass, DeskFault>
-        ensures opened { IfOk result (λ p. IsOpened seat p) }
-        ensures refused { IfErr result OpensNot }
+        ensures { Opens D.limits seat result }
     {
-        let opened = open_in(alloc, &mut self.hall.lock(rt), seat);
+        let opened = open_in(alloc, &mut self.hall.lock(rt).hall, seat);
         self.changed_at(seat).notify_all();
         opened
     }
@@ -73,7 +93,7 @@ impl Desk {
     pub fn close<R: Wait>(&self, rt: &R, pass: Pass) -> Result<(), (Pass, DeskFault)>
         ensures { IfErr result (λ refused. (refused.0 ≡ pass) × IsLost refused.1) }
     {
-        let closed = close_in(&mut self.hall.lock(rt), &pass);
+        let closed = close_in(&mut self.hall.lock(rt).hall, &pass);
         self.changed_at(pass.seat()).notify_all();
         match closed {
             Ok(()) => Ok(()),
@@ -100,7 +120,7 @@ impl Desk {
         ensures err { OnErr result (pass.new ≡ pass.old) }
         ensures fits { Tells result pass.old request }
     {
-        let parcel = submit_in(alloc, &mut self.hall.lock(rt), pass, request)?;
+        let parcel = submit_in(alloc, &mut self.hall.lock(rt).hall, pass, request)?;
         self.changed_at(pass.seat()).notify_all();
         self.hand_over(rt, alloc, &Direct, parcel);
         Ok(())
@@ -116,7 +136,7 @@ impl Desk {
         ensures got { Collects pass.old result pass.new }
         ensures right { IsGot pass.new.limits pass.new.sent pass.new.got }
     {
-        let found = collect_in(alloc, &self.hall.lock(rt), pass);
+        let found = collect_in(alloc, &self.hall.lock(rt).hall, pass);
         let _ = pass.got();
         found
     }
@@ -131,12 +151,12 @@ impl Desk {
         ensures right { IsGot pass.new.limits pass.new.sent pass.new.got }
         ensures waited { IfOk result IsNotBusy }
     {
-        let mut hall = self.hall.lock(rt);
+        let mut seated = self.hall.lock(rt);
         for _ in rt.forever() {
-            let found = collect_in(alloc, &hall, pass);
+            let found = collect_in(alloc, &seated.hall, pass);
             let _ = pass.got();
             match found? {
-                Got::Busy => hall = self.changed_at(pass.seat()).wait(rt, hall),
+                Got::Busy => seated = self.changed_at(pass.seat()).wait(rt, seated),
                 found => return Ok(found),
             }
         }
@@ -182,7 +202,7 @@ impl Desk {
     // Takes a parcel in at its seat, and gives the one that goes out from there next.
     fn take_back<R: Wait>(&self, rt: &R, alloc: Global, parcel: Parcel) -> Option<Parcel> {
         let seat = parcel.seat();
-        let next = return_in(alloc, &mut self.hall.lock(rt), parcel);
+        let next = return_in(alloc, &mut self.hall.lock(rt).hall, parcel);
         self.changed_at(seat).notify_all();
         next
     }

@@ -3,3 +3,4 @@
 
 pub mod desk;
 pub mod gate;
+pub mod seating;

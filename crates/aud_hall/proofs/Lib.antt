@@ -12,3 +12,4 @@ pub mod Places
 pub mod Slices
 pub mod Told
 pub mod Sent
+pub mod Limits

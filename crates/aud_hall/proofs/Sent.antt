@@ -2,6 +2,7 @@
 use denote.Param.Send.{IsSend, view_send, sendable}
 use denote.Param.SendFields.{declared_send}
 use Rattle.std.proofs.Crossing.{Box-send, Vec-send}
+use Rattle.aud_text.specs.contracts.limits.Limits as limits
 use Rattle.aud_bench.specs.contracts.request.Request as request
 use Rattle.aud_bench.specs.contracts.request.Answer as answer
 use Rattle.aud_bench.specs.contracts.bench.Bench as bench
@@ -36,7 +37,7 @@ place_send : IsSend place.the_row
 place_send = view_send place_inside.the_row _ _ _ _ (place_parts seat_send)
 
 hall_parts : IsSend place.the_row → IsSend hall_inside.the_row
-hall_parts inner = declared_send hall_inside.the_type (Vec-send place.the_row inner, tt)
+hall_parts inner = declared_send hall_inside.the_type (Vec-send limits.the_row (search sendable), (Vec-send place.the_row inner, tt))
 
 pub hall_send : IsSend hall.the_row
 hall_send = view_send hall_inside.the_row _ _ _ _ (hall_parts place_send)

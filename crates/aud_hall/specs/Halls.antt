@@ -25,6 +25,11 @@ abbrev pub place_at : List Place → ℕ → Option Place
 place_at hall zero = None
 place_at hall (suc k) = at hall k
 
+-- the limits of its seats, which no call changes
+abbrev pub limits_of : List Place → List Limits
+limits_of [] = []
+limits_of (place ∷ hall) = place.limits ∷ limits_of hall
+
 abbrev pub put_place : List Place → ℕ → Place → List Place
 put_place hall zero place = hall
 put_place hall (suc k) place = put hall k place

@@ -1,7 +1,7 @@
 // The hall: the seats of all users.
 
 ghost use Rattle.std.specs.Prelude.{◌≡◌, ℕ, ◌<◌, suc, length, true, false, Some, None, Option, IfOk, IfErr, IfSome, OnErr, MatchOption};
-ghost use Rattle.aud_hall.specs.Halls.{nobodys, place_at, claims, submits, sends_out, checks_in, collects, frees};
+ghost use Rattle.aud_hall.specs.Halls.{nobodys, place_at, limits_of, claims, submits, sends_out, checks_in, collects, frees};
 ghost use Rattle.aud_hall.specs.Ties.Said.{is_memory, said, said_answers, said_next};
 ghost use Rattle.aud_hall.specs.Parcels.{bench_of};
 ghost use Rattle.aud_hall.specs.Told.{IsToldAt};
@@ -25,21 +25,24 @@ use std::marker::Model;
 /// private server to its own requests, whatever else happens in the hall; where memory is refused, its last answer may say so.
 #[derive(Drop)]
 pub struct Hall {
+    limits: Vec<Limits>,
     places: Vec<Place>,
 }
 
 impl Model for Hall {
-    ghost use Rattle.std.specs.Prelude.{List};
+    ghost use Rattle.std.specs.Prelude.{◌≡◌, List};
     ghost use Rattle.aud_hall.specs.Halls as halls;
 
     ghost Value = { List halls.Place };
 
     ghost view = { λ h. h.places.items };
+
+    ghost invariant = { λ h. h.limits.items ≡ halls.limits_of h.places.items };
 }
 
 impl Hall {
-    /// A hall with a seat for each of these limits, which nobody has claimed. From 1 to 64 seats are meant, and nothing is asked
-    /// of their number.
+    /// A hall with a seat for each of these limits, which nobody has claimed. From 1 to 64 seats are meant, each with 64 to 256
+    /// tasks and 32,768 to 65,536 bytes of source; nothing of that is asked.
     ///
     /// # Errors
     ///
@@ -51,7 +54,7 @@ impl Hall {
         for each in &limits {
             places.push(Place::new(*each))?;
         }
-        Ok(Hall { places })
+        Ok(Hall { limits, places })
     }
 
     // Where the place of this seat is kept, if there is one.
@@ -75,6 +78,7 @@ impl Hall {
         ensures claims { claims seat (is_memory result) self.old
             ≡ record { now = self.new; reply = said result } }
         ensures err { OnErr result (self.new ≡ self.old) }
+        ensures limits { limits_of self.new ≡ limits_of self.old }
     {
         let Some(index) = self.index_of(seat) else {
             return Err(HallFault::NoSuchSeat);
@@ -108,6 +112,7 @@ impl Hall {
         ensures submits { submits seat request (is_memory result) self.old
             ≡ record { now = self.new; reply = said result } }
         ensures err { OnErr result (self.new ≡ self.old) }
+        ensures limits { limits_of self.new ≡ limits_of self.old }
     {
         let Some(index) = self.index_of(seat) else {
             return Err(HallFault::NoSuchSeat);
@@ -122,6 +127,7 @@ impl Hall {
         ensures sends { (refused : Option ℕ) × (sends_out seat refused self.old
             ≡ record { hall = self.new; gone = bench_of result }) }
         ensures seat { IfSome result (λ p. p.seat ≡ seat) }
+        ensures limits { limits_of self.new ≡ limits_of self.old }
     {
         let Some(index) = self.index_of(seat) else {
             return None;
@@ -144,6 +150,7 @@ impl Hall {
             ≡ record { now = self.new; reply = said_next result } }
         ensures err { IfErr result (λ stranger. (stranger.parcel ≡ parcel)
             × (self.new ≡ self.old)) }
+        ensures limits { limits_of self.new ≡ limits_of self.old }
     {
         let Some(index) = self.index_of(seat) else {
             return Err(Stranger {
@@ -182,6 +189,7 @@ impl Hall {
     pub fn free(&mut self, seat: usize) -> Result<(), HallFault>
         ensures frees { frees seat self.old ≡ record { now = self.new; reply = said result } }
         ensures err { OnErr result (self.new ≡ self.old) }
+        ensures limits { limits_of self.new ≡ limits_of self.old }
     {
         let Some(index) = self.index_of(seat) else {
             return Err(HallFault::NoSuchSeat);
@@ -190,8 +198,15 @@ impl Hall {
         place.free()
     }
 
+    /// The limits of the seats, in the order of their numbers. They never change. No memory is taken.
+    pub fn limits(&self) -> &[Limits]
+        ensures { result.now ≡ limits_of self.now }
+    {
+        &self.limits
+    }
+
     /// The limits of a seat, where there is one. No memory is taken.
-    pub fn limits(&self, seat: usize) -> Option<Limits>
+    pub fn limits_at(&self, seat: usize) -> Option<Limits>
         ensures { result ≡ limits_at (place_at self.now seat) }
     {
         let index = self.index_of(seat)?;

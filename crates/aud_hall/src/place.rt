@@ -1,7 +1,6 @@
 // A place of the hall, claimed or not.
 
 ghost use Rattle.std.specs.Prelude.{◌≡◌, ℕ, ◌<◌, length, true, false, Some, None, Option, IfErr, IfSome, OnErr, MatchOption};
-ghost use Rattle.aud_bench.specs.Same.{same_limits};
 ghost use Rattle.aud_hall.specs.Seats.{submitted, collected};
 ghost use Rattle.aud_hall.specs.Halls.{at_seat, claiming, freeing};
 ghost use Rattle.aud_hall.specs.Told.{IsToldIn};
@@ -51,6 +50,7 @@ impl Place {
         ensures claims { claiming (is_memory result) self.old self.old.seat
             ≡ record { now = self.new; reply = said result } }
         ensures err { OnErr result (self.new ≡ self.old) }
+        ensures limits { self.new.limits ≡ self.old.limits }
     {
         if self.seat.is_some() {
             return Err(HallFault::SeatInUse);
@@ -78,6 +78,7 @@ impl Place {
         ensures submits { at_seat (submitted request (is_memory result)) self.old self.old.seat
             ≡ record { now = self.new; reply = said result } }
         ensures err { OnErr result (self.new ≡ self.old) }
+        ensures limits { self.new.limits ≡ self.old.limits }
     {
         let Some(seat) = &mut self.seat else {
             return Err(HallFault::NotClaimed);
@@ -90,6 +91,7 @@ impl Place {
         ensures sends { (refused : Option ℕ)
             × SentFrom refused self.old self.old.seat self.new (bench_of result) }
         ensures seat { IfSome result (λ p. p.seat ≡ number) }
+        ensures limits { self.new.limits ≡ self.old.limits }
     {
         let Some(seat) = &mut self.seat else {
             return None;
@@ -106,6 +108,7 @@ impl Place {
             ≡ record { now = self.new; reply = said_next result } }
         ensures err { IfErr result (λ stranger. (stranger.parcel ≡ parcel)
             × (self.new ≡ self.old)) }
+        ensures limits { self.new.limits ≡ self.old.limits }
     {
         if let Some(why) = self.judge(&parcel) {
             return Err(Stranger { parcel, why });
@@ -148,6 +151,7 @@ impl Place {
         ensures frees { freeing self.old self.old.seat
             ≡ record { now = self.new; reply = said result } }
         ensures err { OnErr result (self.new ≡ self.old) }
+        ensures limits { self.new.limits ≡ self.old.limits }
     {
         if self.seat.is_none() {
             return Err(HallFault::NotClaimed);

@@ -30,6 +30,6 @@ is_over (a ∷ b ∷ answers) = is_over (b ∷ answers)
 abbrev pub IsGot : Limits → List Request → List Answer → Type 0
 IsGot limits sent got = (front : List Answer) × (got ≡ front ++ told (is_over got)) × IsPrefix front (alone limits sent)
 
--- a new pass of this seat
-abbrev pub IsOpened : ℕ → Passed → Type 0
-IsOpened seat p = (p.seat ≡ seat) × (p.sent ≡ []) × (p.got ≡ [])
+-- a new pass of this seat, which has these limits
+abbrev pub opened : ℕ → Limits → Passed
+opened seat limits = record { seat = seat; limits = limits; sent = []; got = [] }

@@ -1,5 +1,6 @@
 -- What a user is told, whatever all others did before.
 use Rattle.std.specs.Prelude.{◌≡◌, ◌⊎◌, ℕ, ◌+◌, ◌<◌, ◌≤◌, length, true, false, Option, Some, None, Result, Ok, Err}
+use Rattle.aud_text.specs.declared.limits.Limits.{Limits}
 use Rattle.aud_bench.specs.declared.request.Request.{Request}
 use Rattle.aud_bench.specs.Alone.{fits, alone}
 use Rattle.aud_bench.specs.Seen.{has_quit}
@@ -81,12 +82,12 @@ abbrev pub Tells : {A : Type 0} → Result A DeskFault → Passed → Request �
 Tells (Ok done) p r = FitsBy None p r
 Tells (Err fault) p r = FitsBy (Some fault) p r
 
--- the faults with which no session begins, and with which none ends
-abbrev pub HasNoSeat : DeskFault → Type 0
-HasNoSeat fault.NoSuchSeat = Unit {0}
-HasNoSeat fault.SeatInUse = Unit {0}
-HasNoSeat _ = ⊥
+-- why no session begins at a seat with these limits, if there is such a seat, memory apart
+abbrev pub not_opened : Option Limits → DeskFault
+not_opened None = fault.NoSuchSeat
+not_opened (Some limits) = fault.SeatInUse
 
-abbrev pub OpensNot : DeskFault → Type 0
-OpensNot fault.Memory = Unit {0}
-OpensNot f = HasNoSeat f
+-- no memory is asked for where there is no such seat
+abbrev pub OpensNot : Option Limits → DeskFault → Type 0
+OpensNot None f = f ≡ not_opened None
+OpensNot (Some limits) f = (f ≡ fault.Memory) ⊎ (f ≡ not_opened (Some limits))

@@ -1,5 +1,5 @@
 -- What is done under the lock of a desk.
-use Rattle.std.specs.Prelude.{◌≡◌, ◌⊎◌, ℕ, ◌-◌, ◌==◌, nat_lt, List, length, Bool, true, false, if◌then◌else◌, Option, Some, None, Result, Ok, Err}
+use Rattle.std.specs.Prelude.{◌≡◌, ◌⊎◌, ℕ, ◌-◌, ◌==◌, nat_lt, List, length, Bool, false, if◌then◌else◌, Option, Some, None, Result, Ok, Err}
 use Rattle.aud_text.specs.declared.limits.Limits.{Limits}
 use Rattle.aud_bench.specs.declared.request.Request.{Request}
 use Rattle.aud_bench.specs.declared.request.Answer.{Answer}
@@ -7,7 +7,7 @@ use Rattle.aud_bench.specs.Same.{same_limits}
 use Rattle.aud_bench.specs.Seen.{Seen as Bench}
 use Rattle.aud_hall.specs.declared.fault.HallFault.{HallFault}
 use Rattle.aud_hall.specs.declared.fault.HallFault.TheVariants as hall
-use Rattle.aud_hall.specs.declared.next.Next.TheVariants.{More, Idle as NothingMore}
+use Rattle.aud_hall.specs.declared.next.Next.TheVariants.{More}
 use Rattle.aud_hall.specs.Replies.{Reply, Accepted, Refused, Taken}
 use Rattle.aud_hall.specs.Seats.{Seat}
 use Rattle.aud_hall.specs.CheckIns.{first_difference}
@@ -18,7 +18,7 @@ use Rattle.aud_pass.specs.declared.got.Got.TheVariants.{Idle, New, Busy}
 use Rattle.aud_pass.specs.declared.fault.DeskFault.{DeskFault}
 use Rattle.aud_pass.specs.declared.fault.DeskFault.TheVariants.{NoSuchSeat, NotClaimed, NotThisDesk, Memory}
 use Rattle.aud_pass.specs.Faults.{of_hall}
-use Rattle.aud_pass.specs.Passed.{Passed, is_over, IsOpened}
+use Rattle.aud_pass.specs.Passed.{Passed, is_over, opened}
 
 -- ## Whether a pass is one of its seat's
 
@@ -112,7 +112,7 @@ Returns k b before gone after = SendsMore k (checks_in k b before).now gone afte
 -- ## A session begins, and ends
 
 abbrev pub Opens : ℕ → List Place → Result Passed DeskFault → List Place → Type 0
-Opens k before (Ok p) after = IsOpened k p × (limits_at (place_at before k) ≡ Some p.limits) × (claims k false before ≡ record { now = after; reply = Accepted })
+Opens k before (Ok p) after = (p ≡ opened k p.limits) × (limits_at (place_at before k) ≡ Some p.limits) × (claims k false before ≡ record { now = after; reply = Accepted })
 Opens k before (Err f) after = (refused : Bool) × (fault : HallFault) × (f ≡ of_hall fault) × (claims k refused before ≡ record { now = after; reply = Refused fault }) × (after ≡ before)
 
 abbrev pub ClosesBy : Option DeskFault → ℕ → List Place → Result (Unit {0}) DeskFault → List Place → Type 0

@@ -23,8 +23,8 @@ pub enum DeskFault {
     /// No session is under way there, or it takes no further request.
     #[error("E93 seat not claimed")]
     NotClaimed,
-    /// What the pass has sent is not what is stored at its seat: at this place, counted from 0, the two part, or the shorter one
-    /// ends.
+    /// The pass has other limits than its seat, at place 0; or what it has sent is not what is stored there: at this place, counted
+    /// from 0, the two part, or the shorter one ends.
     #[error("E95 not this desk")]
     NotThisDesk(usize),
     /// The request does not fit the journal.

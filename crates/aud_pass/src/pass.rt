@@ -1,7 +1,7 @@
 // A pass: the right to a seat.
 
-ghost use Rattle.std.specs.Prelude.{◌≡◌, ◌==◌, ◌++◌, [], length, false, IsTrue, OnOk, OnErr};
-ghost use Rattle.aud_pass.specs.Passed.{Passed, is_over, IsGot};
+ghost use Rattle.std.specs.Prelude.{◌≡◌, ◌==◌, ◌++◌, length, false, IsTrue, OnOk, OnErr};
+ghost use Rattle.aud_pass.specs.Passed.{Passed, opened, is_over, IsGot};
 ghost use Rattle.aud_pass.specs.Replies.{IsWhole};
 
 use aud_bench::request::{Answer, Request};
@@ -39,7 +39,7 @@ impl Model for Pass {
 impl Pass {
     /// A pass of a seat with these limits, by which nothing was sent.
     pub(crate) fn new(alloc: Global, seat: usize, limits: Limits) -> Pass
-        ensures { result ≡ record { seat = seat; limits = limits; sent = []; got = [] } }
+        ensures { result ≡ opened seat limits }
     {
         Pass {
             seat,

@@ -1,11 +1,10 @@
 // What the calls of a desk do under its lock.
 
-ghost use Rattle.std.specs.Prelude.{◌≡◌, ◌<◌, ◌++◌, [], ◌∷◌, ℕ, Option, Some, None, Err, length, true, vec_len, vec_capacity, IfOk, IfErr, IfSome, OnOk, OnErr};
-ghost use Rattle.aud_hall.specs.Halls.{place_at};
+ghost use Rattle.std.specs.Prelude.{◌≡◌, ◌<◌, ◌++◌, [], ◌∷◌, Option, Some, None, Err, vec_len, vec_capacity, IfOk, IfErr, IfSome, OnOk, OnErr};
+ghost use Rattle.aud_hall.specs.Halls.{place_at, limits_of};
 ghost use Rattle.aud_hall.specs.Parcels.{bench_of};
 ghost use Rattle.aud_hall.specs.Told.{IsToldAt};
 ghost use Rattle.aud_hall.specs.Ties.Said.{said};
-ghost use Rattle.aud_pass.specs.Passed.{Passed};
 ghost use Rattle.aud_pass.specs.Replies.{Collects, Tells};
 ghost use Rattle.aud_pass.specs.Sections.{parted, not_there, in_turn, submit_fault, CollectsIn, StoresAndSends, Returns, Opens, Closes};
 ghost use Rattle.aud_pass.specs.declared.fault.DeskFault.{DeskFault};
@@ -47,6 +46,7 @@ pub fn submit_in(
         StoresAndSends pass.old.seat request hall.old (bench_of parcel) hall.new) }
     ensures seat { IfOk result (λ parcel. IfSome parcel (λ p. p.seat ≡ pass.old.seat)) }
     ensures fits { Tells result pass.old request }
+    ensures limits { limits_of hall.new ≡ limits_of hall.old }
 {
     if let Some(fault) = submit_fault(hall, pass, &request) {
         return Err(fault);
@@ -79,6 +79,7 @@ pub fn collect_in(alloc: Global, hall: &Hall, pass: &mut Pass) -> Result<Got, De
 pub fn return_in(alloc: Global, hall: &mut Hall, parcel: Parcel) -> Option<Parcel>
     ensures returns { Returns parcel.seat parcel.bench hall.old (bench_of result) hall.new }
     ensures seat { IfSome result (λ p. p.seat ≡ parcel.seat) }
+    ensures limits { limits_of hall.new ≡ limits_of hall.old }
 {
     let seat = parcel.seat();
     match hall.check_in(seat, parcel) {
@@ -94,9 +95,10 @@ pub fn return_in(alloc: Global, hall: &mut Hall, parcel: Parcel) -> Option<Parce
 ///
 /// The first that holds of: there is no such seat; a session is under way there; memory is refused. The hall is as it was.
 pub fn open_in(alloc: Global, hall: &mut Hall, seat: usize) -> Result<Pass, DeskFault>
-    ensures { Opens seat hall.old result hall.new }
+    ensures opens { Opens seat hall.old result hall.new }
+    ensures limits { limits_of hall.new ≡ limits_of hall.old }
 {
-    let Some(limits) = hall.limits(seat) else {
+    let Some(limits) = hall.limits_at(seat) else {
         return Err(DeskFault::NoSuchSeat);
     };
     match hall.claim(alloc, seat) {
@@ -112,7 +114,8 @@ pub fn open_in(alloc: Global, hall: &mut Hall, seat: usize) -> Result<Pass, Desk
 /// The first that holds of: there is no such seat; it is not claimed; what the pass has sent is not what is stored
 /// there. The hall is as it was.
 pub fn close_in(hall: &mut Hall, pass: &Pass) -> Result<(), DeskFault>
-    ensures { Closes pass.now hall.old result hall.new }
+    ensures closes { Closes pass.now hall.old result hall.new }
+    ensures limits { limits_of hall.new ≡ limits_of hall.old }
 {
     if let Some(fault) = not_there(hall, pass) {
         return Err(fault);
@@ -172,7 +175,7 @@ fn not_there(hall: &Hall, pass: &Pass) -> Option<DeskFault>
     ensures answers { IsToldAt (place_at hall.now pass.now.seat) }
 {
     let asked = hall.asked(pass.seat);
-    let Some(limits) = hall.limits(pass.seat) else {
+    let Some(limits) = hall.limits_at(pass.seat) else {
         return Some(DeskFault::NoSuchSeat);
     };
     let Some(stored) = asked else {

@@ -3,6 +3,7 @@
 use aud_connection::serve::serve;
 use aud_desk::desk::Desk;
 use aud_desk::gate::Gate;
+use aud_desk::seating::Seating;
 use aud_solo::streams::Stream;
 use std::alloc::Global;
 use std::net::TcpStream;
@@ -21,7 +22,7 @@ pub trait Host {
     fn stop<R: Wait>(&self, rt: &R);
 }
 
-impl Host for Desk {
+impl<D: Seating> Host for Desk<D> {
     fn work<R: Wait, G: Gate>(&self, rt: &R, alloc: Global, gate: &G) {
         Desk::work(self, rt, alloc, gate);
     }

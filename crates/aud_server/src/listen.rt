@@ -1,7 +1,8 @@
 // The listening program: workers, and a thread for each connection.
 
-ghost use Rattle.std.specs.Prelude.{◌≡◌, IfOk, replicate};
-ghost use Rattle.aud_text.specs.declared.limits.TheConstants.{STANDARD};
+ghost use Rattle.std.specs.Prelude.{◌≡◌, ◌-◌, ◌++◌, IfOk, replicate};
+ghost use Rattle.aud_hall.specs.Halls.{limits_of};
+ghost use Rattle.aud_text.specs.declared.limits.TheConstants.{STANDARD, LARGE};
 ghost use Rattle.aud_server.specs.declared.listen.ListenFault.TheVariants as fault;
 
 use crate::host::Host;
@@ -9,10 +10,12 @@ use crate::options::Options;
 use crate::turnstile::Turnstile;
 use aud_desk::desk::Desk;
 use aud_desk::gate::Direct;
+use aud_desk::seating::Seating;
 use aud_hall::hall::Hall;
-use aud_text::limits::{Limits, STANDARD};
+use aud_text::limits::{LARGE, Limits, STANDARD};
 use std::alloc::{AllocError, Global};
 use std::io::Read;
+use std::marker::Brand;
 use std::net::{Ipv4Addr, Net, Shutdown, TcpListener, TcpStream};
 use std::sync::Wait;
 use std::thread;
@@ -46,8 +49,18 @@ pub fn listen<R>(rt: &R, alloc: Global, options: Options) -> Result<(), ListenFa
 where
     R: Net<Listener = TcpListener, Stream = TcpStream> + Threads + Wait + Sync,
 {
-    let hall = Hall::new(alloc, limits_of(alloc, options.seats)?)?;
-    let desk = Desk::new(alloc, hall)?;
+    let hall = Hall::new(alloc, limits_of_seats(alloc, options.seats, options.large)?)?;
+    listen_at::<Brand, R>(rt, alloc, hall, options)
+}
+
+// The same, at a desk of this hall.
+fn listen_at<D, R>(rt: &R, alloc: Global, hall: Hall, options: Options) -> Result<(), ListenFault>
+where
+    D: Seating + Send + Sync,
+    R: Net<Listener = TcpListener, Stream = TcpStream> + Threads + Wait + Sync,
+    requires { limits_of hall ≡ D.limits }
+{
+    let desk: Desk<D> = Desk::new(alloc, hall)?;
     let Ok(listener) = TcpListener::bind(rt, (Ipv4Addr::LOCALHOST, options.port)) else {
         return Err(ListenFault::Listen);
     };
@@ -75,11 +88,14 @@ fn host_all<R: Threads + Wait + Sync, H: Host + Sync>(
     })
 }
 
-// The limits of so many seats.
-fn limits_of(alloc: Global, seats: usize) -> Result<Vec<Limits>, AllocError>
-    ensures { IfOk result (λ limits. limits.items ≡ replicate seats STANDARD) }
+// The limits of so many seats, of which so many of the first are large.
+fn limits_of_seats(alloc: Global, seats: usize, large: usize) -> Result<Vec<Limits>, AllocError>
+    ensures { IfOk result
+        (λ limits. limits.items ≡ replicate large LARGE ++ replicate (seats - large) STANDARD) }
 {
-    vec![in alloc; STANDARD; seats]
+    let mut limits = vec![in alloc; LARGE; large]?;
+    limits.append(&mut vec![in alloc; STANDARD; seats.saturating_sub(large)]?)?;
+    Ok(limits)
 }
 
 // Serves so many connections, or any number where that is 0. Each has ended then.

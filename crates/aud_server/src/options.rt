@@ -8,10 +8,12 @@ use crate::program::ProgramFault;
 use clap::{Arg, ArgAction, ArgMatches, Command};
 use std::alloc::{AllocError, Global};
 
-/// How many seats and workers there are, where it listens, and how many connections it serves: 0 for any number.
+/// How many seats there are, how many of the first of them are large, how many workers, where it listens, and how many connections
+/// it serves: 0 for any number.
 #[derive(Clone, Copy)]
 pub struct Options {
     pub seats: usize,
+    pub large: usize,
     pub workers: u64,
     pub port: u16,
     pub connections: u64,
@@ -21,9 +23,11 @@ pub struct Options {
 ///
 /// # Errors
 ///
-/// `Arguments` where a word is none of the program's, or a number is not within its range; memory.
+/// `Arguments` where a word is none of the program's, a number is not within its range, or more seats are large than there are;
+/// memory.
 pub fn read_options(alloc: Global, words: &[String]) -> Result<Options, ProgramFault>
     ensures seats { IfOk result (λ o. (1 ≤ o.seats) × (o.seats ≤ 64)) }
+    ensures large { IfOk result (λ o. o.large ≤ o.seats) }
     ensures workers { IfOk result (λ o. (1 ≤ o.workers) × (o.workers ≤ 16)) }
     ensures port { IfOk result (λ o. 1 ≤ o.port) }
     ensures known { IfErr result (λ e. (e ≡ fault.Arguments) ⊎ (e ≡ fault.Server server.Memory)) }
@@ -35,11 +39,13 @@ pub fn read_options(alloc: Global, words: &[String]) -> Result<Options, ProgramF
     }
     let matches = command(alloc)?.try_get_matches_from(words)?;
     let seats = number_within(&matches, "seats", 1, 64)?;
+    let large = number_within(&matches, "large", 0, seats)?;
     let workers = number_within(&matches, "workers", 1, 16)?;
     let port = number_within(&matches, "port", 1, 65_535)?;
     let connections = number_within(&matches, "connections", 0, u64::MAX)?;
     Ok(Options {
         seats: seats as usize,
+        large: large as usize,
         workers,
         port: port as u16,
         connections,
@@ -69,6 +75,7 @@ fn command<'a>(alloc: Global) -> Result<Command<'a>, AllocError> {
         .disable_help_flag(true)
         .disable_version_flag(true)
         .arg(number(alloc, "seats", "8"))?
+        .arg(number(alloc, "large", "0"))?
         .arg(number(alloc, "workers", "4"))?
         .arg(number(alloc, "port", "7070"))?
         .arg(number(alloc, "connections", "0"))

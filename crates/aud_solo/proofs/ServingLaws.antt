@@ -10,10 +10,10 @@ use Rattle.aud_lines.specs.Requests.{requests}
 use Rattle.aud_lines.proofs.FeedLaws.{fed_more, fed_all, none_whole, of_nothing}
 use Rattle.aud_solo.specs.declared.serving.ServeFault.{ServeFault}
 use Rattle.aud_solo.specs.declared.serving.TheConstants.{PIECE}
-use Rattle.aud_solo.specs.Serving.{Telling, TellsSome, WritesAll, WritesCut, WritesPart, memory_text}
+use Rattle.aud_solo.specs.Serving.{Telling, HasRead, TellsSome, WritesAll, WritesCut, WritesPart, memory_text}
 use Rattle.aud_solo.specs.Streams.{Grows, AppendsPrefix}
-use Rattle.aud_solo.specs.Ties.Serving.{Words, IsFresh, TellsNext, TellsNoMore, HasTold, TellsTo, WritesSome, WritesPrefix, HasServed, StopsIn, GoesOn}
-use Rattle.aud_solo.proofs.StreamLaws.{appends_none, appends_more, grows_none, first_grown, first_more, consumes_none, consumes_more}
+use Rattle.aud_solo.specs.Ties.Serving.{Words, TellsNext, TellsNoMore, HasTold, TellsTo, WritesSome, WritesPrefix, HasServed, StopsIn, Stops, GoesOn}
+use Rattle.aud_solo.proofs.StreamLaws.{appends_more, grows_none, first_grown, first_more, consumes_none, consumes_more}
 
 -- ---- of several requests the one at i
 
@@ -29,8 +29,9 @@ all_of asked rs i r below is =
 
 -- ---- prefixes, and then that memory is out
 
-pub stops_more : {S : Type 0} (words : Words S) (left remaining before middle now : Option (List ℕ)) → StopsIn words left remaining before middle → Grows middle now → StopsIn words left remaining before now
-stops_more words left remaining before middle now s grows = record {
+pub stops_more : {S : Type 0} (words : Words S) (left remaining before middle now : Option (List ℕ)) → Stops words left remaining before middle → Grows middle now → Stops words left remaining before now
+stops_more words left remaining before middle now (inl none) grows = inl none
+stops_more words left remaining before middle now (inr s) grows = inr (record {
   input = s.input;
   piece = s.piece;
   taken = s.taken;
@@ -40,11 +41,12 @@ stops_more words left remaining before middle now s grows = record {
   going = s.going;
   written = first_more before middle now s.told s.written grows;
   short = s.short;
-}
+})
 
 module _ (tells : Telling) where
   some_more : (some more all : List Request) (said : List ℕ) → some ++ more ≡ all → TellsSome tells some said → TellsSome tells all said
-  some_more some more all said is (front, rest, e, told) = (front, rest ++ more, sym is ∙ ap (λ rs. rs ++ more) e ∙ append_assoc front rest more, told)
+  some_more some more all said is (inl none) = inl none
+  some_more some more all said is (inr (front, rest, e, told)) = inr (front, rest ++ more, sym is ∙ ap (λ rs. rs ++ more) e ∙ append_assoc front rest more, told)
 
   pub cut : (before middle new : Option (List ℕ)) (asked : List Request) (said : List ℕ) → said ≡ memory_text → WritesSome tells before middle asked → Appends middle new said → WritesCut tells before new asked
   cut before middle new asked said is (told, some, k) j =
@@ -63,7 +65,7 @@ module _ {S : Type 0} (words : Words S) where
   module _ (before old : Option (List ℕ)) (asked : List Request) (state : S) (h : HasTold words before old asked state) where
     -- nothing is written of what is told for more
     pub some_told : (more : List Request) → WritesSome words.tells before old (asked ++ more)
-    some_told more = (h.told, (asked, more, refl, h.tells), h.written)
+    some_told more = (h.told, inr (asked, more, refl, h.tells), h.written)
 
     pub told_still : TellsNoMore words state → (more : List Request) → HasTold words before old (asked ++ more) state
     told_still none more = let still = none asked more h.told h.is in record { told = h.told; is = still.0; tells = still.1; written = h.written }
@@ -77,7 +79,7 @@ module _ {S : Type 0} (words : Words S) where
       pub front_told : (new : Option (List ℕ)) → AppendsPrefix old new said → WritesPrefix words.tells before new (asked ++ r ∷ [])
       front_told new (xs, ys, k, f) = (
         h.told ++ said,
-        (asked ++ r ∷ [], [], sym (append-nil (asked ++ r ∷ [])), (more asked h.told h.is).1),
+        inr (asked ++ r ∷ [], [], sym (append-nil (asked ++ r ∷ [])), (more asked h.told h.is).1),
         (h.told ++ xs, ys, appends_more before old new h.told xs h.written k, ap (λ t. h.told ++ t) f ∙ sym (append_assoc h.told xs ys)),
       )
 
@@ -92,15 +94,25 @@ module _ {S : Type 0} (words : Words S) where
 
   -- ---- bytes read
 
-  pub served_start : (left before : Option (List ℕ)) (feed : Begun) (state : S) → feed ≡ nothing → IsFresh words state → HasServed words left left before before feed state
-  served_start left before feed state empty fresh = record {
+  pub served_start : (left before now : Option (List ℕ)) (feed : Begun) (state : S) → feed ≡ nothing → HasTold words before now [] state → HasServed words left left before now feed state
+  served_start left before now feed state empty told = record {
     input = [];
     asked = [];
     taken = consumes_none left;
     fed = λ more. sym (of_nothing more) ∙ ap (λ begun. requests_behind begun more) (sym empty);
     begun = ap (λ begun. requests_behind begun []) empty ∙ none_whole nothing refl;
-    told = record { told = []; is = fresh.is; tells = fresh.tells; written = appends_none before };
+    told = told;
   }
+
+  -- where it ends at the greeting, nothing is read
+  none_asked : [] ≡ requests []
+  none_asked = sym (none_whole nothing refl) ∙ of_nothing []
+
+  pub some_unread : (left before now : Option (List ℕ)) → WritesSome words.tells before now [] → HasRead left left (λ input. WritesSome words.tells before now (requests input))
+  some_unread left before now w = ([], consumes_none left, subst (WritesSome words.tells before now) none_asked w)
+
+  pub front_unread : (left before now : Option (List ℕ)) → WritesPrefix words.tells before now [] → HasRead left left (λ input. WritesPrefix words.tells before now (requests input))
+  front_unread left before now w = ([], consumes_none left, subst (WritesPrefix words.tells before now) none_asked w)
 
   -- whether a turn is due
   pub due : (over : Bool) (state : S) (remaining : Option (List ℕ)) → over ≡ words.over state → (over ≡ true → TellsNoMore words state) → GoesOn words (not over) state remaining

@@ -1,6 +1,6 @@
 -- A session with a private server, as one who answers the requests of a stream.
 use Rattle.std.specs.Prelude.{if◌then◌else◌}
-use Rattle.std.proofs.Common.{◌≡◌, ◌||◌, ℕ, List, [], ◌∷◌, ◌++◌, Option, Bool, true, false, refl, sym, ◌∙◌, ap, append_assoc, append-nil, subst}
+use Rattle.std.proofs.Common.{◌≡◌, inl, inr, arith, ◌||◌, ℕ, List, [], ◌∷◌, ◌++◌, Option, Bool, true, false, refl, sym, ◌∙◌, ap, append_assoc, append-nil, subst}
 use Rattle.std.specs.List.{list_any}
 use Rattle.std.proofs.lemmas.List.Folds.{list_any-append}
 use Rattle.aud_text.specs.declared.limits.TheConstants.{STANDARD}
@@ -10,9 +10,11 @@ use Rattle.aud_bench.specs.declared.session.Session.{Session}
 use Rattle.aud_bench.specs.Alone.{is_quit, answers_from, alone}
 use Rattle.aud_bench.specs.Ties.Answered.{server, HasAnswered}
 use Rattle.aud_lines.specs.Text.{answer_text, text_from, text}
+use Rattle.aud_lines.specs.Ties.Begun.{nothing}
+use Rattle.aud_lines.proofs.FeedLaws.{none_whole, of_nothing}
 use Rattle.aud_solo.specs.Solo.{TellsAlone, StopsAtQuit}
-use Rattle.aud_solo.specs.Ties.Serving.{IsFresh, TellsNext, TellsNoMore, StopsIn}
-use Rattle.aud_solo.specs.Ties.Sessions.{session_words}
+use Rattle.aud_solo.specs.Ties.Serving.{HasGreeted, TellsNext, TellsNoMore, Stops}
+use Rattle.aud_solo.specs.Ties.Sessions.{IsNew, session_words}
 
 text_from-append : (some more : List Answer) → text_from (some ++ more) ≡ text_from some ++ text_from more
 text_from-append [] more = refl
@@ -32,9 +34,9 @@ pub text_none : text [] ≡ []
 unfolding text
 text_none = refl
 
-pub fresh : (session : Session) → session.limits ≡ STANDARD → HasAnswered [] session → session.over ≡ false → IsFresh session_words session
+pub greeted : (session : Session) → IsNew session → HasGreeted session_words [] session
 unfolding alone text
-fresh session same none going = record {
+greeted session (same, none, going) = record {
   is = record { limits_are = same; answered = none; says = refl; quit = going };
   tells = refl;
   going = going;
@@ -99,8 +101,15 @@ over_says session over asked more told h = (
     says = h.says ∙ ap text (sym (subst (λ limits. alone limits (asked ++ more) ≡ alone limits asked) h.limits_are (still more)))
 
 -- so it stops at a QUIT
-pub stops_at : (left remaining before now : Option (List ℕ)) → StopsIn session_words left remaining before now → StopsAtQuit left remaining
-stops_at left remaining before now s = record {
+pub stops_at : (left remaining before now : Option (List ℕ)) → Stops session_words left remaining before now → StopsAtQuit left remaining
+stops_at left remaining before now (inl none) = record {
+  before = [];
+  piece = [];
+  taken = none;
+  goes_on = ap (list_any is_quit) (sym (of_nothing []) ∙ none_whole nothing refl);
+  short = omega arith;
+}
+stops_at left remaining before now (inr s) = record {
   before = s.input;
   piece = s.piece;
   taken = s.taken;

@@ -1,6 +1,6 @@
 -- What a server on one stream of requests reads and writes, whatever it tells for them. Of a reader and a writer a word takes what was
 -- left in it, or stood there, before the call and after it. Nothing is said where that is not known.
-use Rattle.std.specs.Prelude.{◌≡◌, ◌⊎◌, ℕ, List, ◌++◌, Option, Result, Ok, Err, IfSome, OnOk, IsErrOf}
+use Rattle.std.specs.Prelude.{◌≡◌, ◌⊎◌, ℕ, List, [], ◌++◌, Option, Result, Ok, Err, IfSome, OnOk, IsErrOf}
 use Rattle.std.specs.Io.KnownBytes.{Appends, Consumes}
 use Rattle.aud_text.specs.declared.refusal.Refusal.TheVariants as refusal
 use Rattle.aud_bench.specs.declared.request.Request.{Request}
@@ -23,9 +23,9 @@ HasRead old new holds = (input : List ℕ) × Consumes old new input × holds in
 abbrev pub WritesAll : Telling → Option (List ℕ) → Option (List ℕ) → List Request → Type 0
 WritesAll tells old new asked = (said : List ℕ) × tells asked said × Appends old new said
 
--- it is told for some first ones of them
+-- it is told for some first ones of them; or nothing is told, not even what is told where nothing is asked
 abbrev pub TellsSome : Telling → List Request → List ℕ → Type 0
-TellsSome tells all said = (some rest : List Request) × (all ≡ some ++ rest) × tells some said
+TellsSome tells all said = (said ≡ []) ⊎ ((some rest : List Request) × (all ≡ some ++ rest) × tells some said)
 
 abbrev pub memory_text : List ℕ
 memory_text = answer_text (answer.Refused refusal.OutOfMemory)

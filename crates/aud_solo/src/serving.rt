@@ -7,7 +7,7 @@ ghost use Rattle.aud_solo.specs.declared.serving.TheConstants.{READS};
 ghost use Rattle.aud_solo.specs.declared.serving.ServeFault.TheVariants as fault;
 ghost use Rattle.aud_solo.specs.Serving.{Serves, CountsReads, CountsReadsTo, CountsWrites, memory_text};
 ghost use Rattle.aud_solo.specs.Streams.{counted, counted_by, CountsUpTo, Grows, AppendsPrefix};
-ghost use Rattle.aud_solo.specs.Ties.Serving.{Words, IsFresh, TellsNext, TellsNoMore, TellsMore, HasServed, StopsIn, ServesTurn, GoesOn, ServesSome};
+ghost use Rattle.aud_solo.specs.Ties.Serving.{Words, HasGreeted, HasTold, TellsTo, TellsNext, TellsNoMore, TellsMore, HasServed, StopsIn, Stops, ServesTurn, GoesOn, ServesSome};
 
 use crate::streams::{Sink, Source};
 use aud_bench::request::Request;
@@ -47,6 +47,15 @@ pub const PIECE: usize = 4_096;
 pub trait Attendant {
     ghost words: { Words Self };
 
+    /// The text of what is told before anything is asked.
+    ///
+    /// # Errors
+    ///
+    /// Where memory is refused. Then nothing is asked.
+    fn greet(&self, alloc: Global) -> Result<Vec<u8>, AllocError>
+        requires { words.fresh self.now }
+        ensures { IfOk result (λ text. HasGreeted words text.items self.now) };
+
     /// The text of what is told for a request.
     ///
     /// # Errors
@@ -66,25 +75,26 @@ pub trait Attendant {
     fn leave(&mut self, alloc: Global);
 }
 
-/// Answers the requests of a reader, turn by turn: each answer is written before the next request is looked at, and before
-/// more is read. It reads to the end, or until nothing more is told.
+/// Greets, and answers the requests of a reader, turn by turn: each answer is written before the next request is looked at, and
+/// before more is read. It reads to the end, or until nothing more is told.
 ///
 /// # Errors
 ///
 /// - `Read` where a read fails, or one more than `READS` is needed. What is told for all that was read is written.
 /// - `Write` where a write fails, that of the last answer of `Memory` among them. A prefix of what was to be written stands
 ///   there, and it may end within an answer.
-/// - `Memory` where memory is refused. A prefix of the answers is written, and behind it that memory is out.
+/// - `Memory` where memory is refused. A prefix of the answers is written, or not even the greeting, and behind it that memory
+///   is out.
 pub fn serve<A: Attendant, S: Source, T: Sink>(
     alloc: Global,
     attendant: &mut A,
     reader: &mut S,
     writer: &mut T,
 ) -> Result<(), ServeFault>
-    requires { IsFresh A.words attendant.old }
+    requires { A.words.fresh attendant.old }
     ensures serves { Serves A.words.tells result (S.remaining reader.old) (S.remaining reader.new)
         (T.contents writer.old) (T.contents writer.new) }
-    ensures stops { StopsIn A.words (S.remaining reader.old) (S.remaining reader.new)
+    ensures stops { Stops A.words (S.remaining reader.old) (S.remaining reader.new)
         (T.contents writer.old) (T.contents writer.new) }
     ensures reads { CountsUpTo READS (S.calls reader.old) (S.calls reader.new) }
     ensures read { CountsReadsTo (S.calls reader.new ≡ counted_by READS (S.calls reader.old)) result
@@ -106,22 +116,40 @@ fn serve_all<A: Attendant, S: Source, T: Sink>(
     reader: &mut S,
     writer: &mut T,
 ) -> Result<(), ServeFault>
-    requires { IsFresh A.words attendant.old }
+    requires { A.words.fresh attendant.old }
     ensures serves { ServesSome A.words.tells result (S.remaining reader.old) (S.remaining reader.new)
         (T.contents writer.old) (T.contents writer.new) }
-    ensures stops { StopsIn A.words (S.remaining reader.old) (S.remaining reader.new)
+    ensures stops { Stops A.words (S.remaining reader.old) (S.remaining reader.new)
         (T.contents writer.old) (T.contents writer.new) }
     ensures reads { CountsUpTo READS (S.calls reader.old) (S.calls reader.new) }
     ensures read { CountsReadsTo (S.calls reader.new ≡ counted_by READS (S.calls reader.old)) result
         (S.failures reader.old) (S.failures reader.new) }
     ensures counts { CountsWrites result (T.failures writer.old) (T.failures writer.new) }
 {
+    greet(alloc, attendant, writer)?;
     // Dropped here alone: each way out of the loop would prove the drop once more.
     let mut feed = Feed::new(alloc);
     serve_pieces(alloc, attendant, &mut feed, reader, writer)
 }
 
-// The same, by a feed of which nothing has come.
+// Writes what is told before anything is asked.
+fn greet<A: Attendant, T: Sink>(
+    alloc: Global,
+    attendant: &A,
+    writer: &mut T,
+) -> Result<(), ServeFault>
+    requires { A.words.fresh attendant.now }
+    ensures tells { TellsTo A.words result (T.contents writer.old) (T.contents writer.new) []
+        attendant.now }
+    ensures going { OnOk result (A.words.over attendant.now ≡ false) }
+    ensures read { IsErrOf result fault.Read → ⊥ }
+    ensures counts { CountsWrites result (T.failures writer.old) (T.failures writer.new) }
+{
+    let greeting = attendant.greet(alloc)?;
+    write(writer, &greeting)
+}
+
+// What is served behind the greeting, by a feed of which nothing has come.
 fn serve_pieces<A: Attendant, S: Source, T: Sink>(
     alloc: Global,
     attendant: &mut A,
@@ -129,12 +157,16 @@ fn serve_pieces<A: Attendant, S: Source, T: Sink>(
     reader: &mut S,
     writer: &mut T,
 ) -> Result<(), ServeFault>
-    requires fresh { IsFresh A.words attendant.old }
+    requires going { A.words.over attendant.old ≡ false }
     requires feed { feed.old ≡ nothing }
-    ensures serves { ServesSome A.words.tells result (S.remaining reader.old) (S.remaining reader.new)
-        (T.contents writer.old) (T.contents writer.new) }
-    ensures stops { StopsIn A.words (S.remaining reader.old) (S.remaining reader.new)
-        (T.contents writer.old) (T.contents writer.new) }
+    ensures serves { (before : Option (List ℕ)) →
+        HasTold A.words before (T.contents writer.old) [] attendant.old
+        → ServesSome A.words.tells result (S.remaining reader.old) (S.remaining reader.new) before
+        (T.contents writer.new) }
+    ensures stops { (before : Option (List ℕ)) →
+        HasTold A.words before (T.contents writer.old) [] attendant.old
+        → StopsIn A.words (S.remaining reader.old) (S.remaining reader.new) before
+        (T.contents writer.new) }
     ensures reads { CountsUpTo READS (S.calls reader.old) (S.calls reader.new) }
     ensures read { CountsReadsTo (S.calls reader.new ≡ counted_by READS (S.calls reader.old)) result
         (S.failures reader.old) (S.failures reader.new) }

@@ -18,6 +18,10 @@ use std::alloc::{AllocError, Global};
 impl Attendant for Session {
     ghost words = { session_words };
 
+    fn greet(&self, alloc: Global) -> Result<Vec<u8>, AllocError> {
+        Ok(Vec::new(alloc))
+    }
+
     fn reply(&mut self, alloc: Global, request: &Request) -> Result<Vec<u8>, AllocError> {
         match self.answer(alloc, request)? {
             Some(answer) => answer_text(alloc, &answer),

@@ -11,6 +11,7 @@ mod counted;
 mod desks;
 mod frames;
 mod fusing;
+mod greetings;
 mod listening;
 mod machines;
 mod queues;

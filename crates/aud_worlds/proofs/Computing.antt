@@ -16,6 +16,7 @@ rows = record {
   at_nobodys = refl;
   taken_out_elsewhere = refl;
   with_other_limits = refl;
+  beside_others = ((refl, refl), (refl, refl));
   out_of_memory_within = refl;
   out_of_memory_giving = refl;
   first_session = refl;

@@ -1,11 +1,12 @@
 -- Calls at a place of the hall, as its methods make them.
-use Rattle.std.specs.Prelude.{◌≡◌, ℕ, List, [], Option, Some, None, Box}
+use Rattle.std.specs.Prelude.{◌≡◌, ℕ, zero, suc, List, [], Option, Some, None, Box}
 use Rattle.std.specs.Global.{Global}
 use Rattle.aud_text.specs.declared.limits.Limits.{Limits}
 use Rattle.aud_bench.specs.declared.request.Request.{Request}
 use Rattle.aud_bench.specs.declared.request.Answer.{Answer}
 use Rattle.aud_bench.specs.Seen.{Seen as Bench}
 use Rattle.aud_hall.specs.declared.why.Why.{Why}
+use Rattle.aud_hall.specs.Numbered.{at}
 use Rattle.aud_hall.specs.Replies.{Stranger, Then}
 use Rattle.aud_hall.specs.Seats.{Seat, sent}
 use Rattle.aud_hall.specs.CheckIns.{judged, judged_vacant, checked}
@@ -58,3 +59,8 @@ outbox_at (Some place) = outbox_in place.seat
 abbrev pub limits_at : Option Place → Option Limits
 limits_at None = None
 limits_at (Some place) = Some place.limits
+
+-- where seats have these limits, those of the seat of a number, if there is one: seats are numbered from 1
+abbrev pub seat_limits : List Limits → ℕ → Option Limits
+seat_limits limits zero = None
+seat_limits limits (suc k) = at limits k

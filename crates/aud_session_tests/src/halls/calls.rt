@@ -5,15 +5,9 @@
 use crate::repeated::TextFault;
 use aud_bench::request::Request;
 use aud_lines::feed::Feed;
-use aud_text::limits::{Limits, STANDARD};
+use aud_text::limits::{LARGE, Limits, STANDARD};
 use aud_worlds::event::Event;
 use std::alloc::Global;
-
-// The largest limits that a seat may have.
-const LARGE: Limits = Limits {
-    tasks: 256,
-    source: 65_536,
-};
 
 /// The limits of the seats, and the calls.
 #[derive(Drop)]

@@ -18,11 +18,13 @@ pub record Words (S : Type 0) : Type 1 where
   pub has_told : List Request → List ℕ → S → Type 0
   -- and tells nothing for more
   pub over : S → Bool
+  -- one in this state was asked nothing and has told nothing yet
+  pub fresh : S → Type 0
 
--- nothing was asked and told yet
-pub record IsFresh {S : Type 0} (words : Words S) (state : S) : Type 0 where
-  pub is : words.has_told [] [] state
-  pub tells : words.tells [] []
+-- one who was asked nothing yet has told this
+pub record HasGreeted {S : Type 0} (words : Words S) (greeting : List ℕ) (state : S) : Type 0 where
+  pub is : words.has_told [] greeting state
+  pub tells : words.tells [] greeting
   pub going : words.over state ≡ false
 
 -- whatever was asked and told before, this is told for one request more
@@ -80,6 +82,10 @@ pub record StopsIn {S : Type 0} (words : Words S) (left remaining before now : O
   pub going : words.over state ≡ false
   pub written : AppendsFirst before now told
   pub short : length piece ≤ PIECE
+
+-- the same of a whole session, which may end before anything is read
+abbrev pub Stops : {S : Type 0} → Words S → (left remaining before now : Option (List ℕ)) → Type 0
+Stops words left remaining before now = Consumes left remaining [] ⊎ StopsIn words left remaining before now
 
 -- What a turn makes of what was served before it. Behind that, all that has come with this turn is served; where its read failed, there is
 -- nothing more. Where memory is refused, or a write failed, it is read, and a prefix of what is told for it is written.

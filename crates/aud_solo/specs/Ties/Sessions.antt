@@ -1,5 +1,5 @@
 -- What a session with a private server has answered and told.
-use Rattle.std.specs.Prelude.{◌≡◌, ℕ, List}
+use Rattle.std.specs.Prelude.{◌≡◌, ℕ, List, [], false}
 use Rattle.std.specs.List.{list_any}
 use Rattle.aud_text.specs.declared.limits.TheConstants.{STANDARD}
 use Rattle.aud_bench.specs.declared.request.Request.{Request}
@@ -15,5 +15,8 @@ pub record HasSaid (asked : List Request) (said : List ℕ) (session : Session) 
   pub says : TellsAlone asked said
   pub quit : session.over ≡ list_any is_quit asked
 
+abbrev pub IsNew : Session → Type 0
+IsNew session = (session.limits ≡ STANDARD) × HasAnswered [] session × (session.over ≡ false)
+
 abbrev pub session_words : Words Session
-session_words = record { tells = TellsAlone; has_told = HasSaid; over = λ session. session.over }
+session_words = record { tells = TellsAlone; has_told = HasSaid; over = λ session. session.over; fresh = IsNew }

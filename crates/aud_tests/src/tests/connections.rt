@@ -1,16 +1,21 @@
 // Connections at a desk: what they are told, and that seat 1 is free behind them, wherever they end.
 
+ghost use Rattle.std.specs.Prelude.{replicate};
+ghost use Rattle.aud_text.specs.declared.limits.TheConstants.{STANDARD};
+
 use crate::tests::counted::{Counted, Noted};
-use crate::tests::desks::desk_of;
 use crate::tests::finds;
 use aud_connection::serve::serve;
 use aud_desk::desk::Desk;
 use aud_desk::gate::Direct;
+use aud_desk::seating::Seating;
+use aud_hall::hall::Hall;
 use aud_pass::fault::DeskFault;
 use aud_pass::pass::Pass;
 use aud_server::host::Host;
 use aud_solo::serving::ServeFault;
 use aud_solo::streams::{Fused, Stream};
+use aud_text::limits::STANDARD;
 use std::alloc::{AllocError, Global};
 use std::cell::Cell;
 use std::io::Read;
@@ -25,8 +30,13 @@ pub type Turn = (usize, &'static [u8], &'static [u8]);
 // How a connection ends, and what it is told.
 type Served<'a> = (Result<(), ServeFault>, &'a [u8]);
 
+// What is told before anything is asked.
+const GREETING: &[u8] =
+    b"+ 9\naud 2\nseat 1 tasks 64 source 32768\nseat 2 tasks 64 source 32768\nseat 3 tasks 64 source 32768\nseat 4 tasks 64 source 32768\nseat 5 tasks 64 source 32768\nseat 6 tasks 64 source 32768\nseat 7 tasks 64 source 32768\nseat 8 tasks 64 source 32768\n";
+
 // Each is asked once: `is_cut_short` counts on it.
 const SESSION: &[Turn] = &[
+    (1, b"", GREETING),
     (1, b"SEAT 9\n", b"- E92 no such seat\n"),
     (1, b"RUN 1\n", NOT_CLAIMED),
     (1, b"SEAT 1\n", b"+ 0\n"),
@@ -45,6 +55,7 @@ const NOT_CLAIMED: &[u8] = b"- E93 seat not claimed\n";
 
 // A pass holds seat 2.
 const SEATS: &[Turn] = &[
+    (1, b"", GREETING),
     (1, b"SEAT 2\n", b"- E91 seat in use\n"),
     (1, b"SEAT 0\n", b"- E92 no such seat\n"),
     (1, b"SEAT 9999\n", b"- E92 no such seat\n"),
@@ -70,6 +81,7 @@ const SESSIONS: [(&str, &[Turn]); 4] = [
     (
         "a LOAD that lacks lines",
         &[
+            (1, b"", GREETING),
             (1, b"SEAT 1\n", b"+ 0\n"),
             (1, b"LOAD 5\nprocedure M is\nbegin null; end M;\n", b""),
         ],
@@ -77,6 +89,7 @@ const SESSIONS: [(&str, &[Turn]); 4] = [
     (
         "lines that are too long",
         &[
+            (1, b"", GREETING),
             (3_000, b"x", b""),
             (1, b"\n", NOT_CLAIMED),
             (1, b"SEAT 1\n", b"+ 0\n"),
@@ -89,11 +102,23 @@ const SESSIONS: [(&str, &[Turn]); 4] = [
 
 // One request more than a journal holds.
 const JOURNAL: &[Turn] = &[
+    (1, b"", GREETING),
     (1, b"SEAT 1\n", b"+ 0\n"),
     (4_096, b"RUN 1\n", b"- E14 no program\n"),
     (1, b"RUN 1\n", b"- E13 journal full\n"),
     (1, b"QUIT\n", b"+ 0\n"),
 ];
+
+// Eight seats.
+struct Eight;
+
+impl Seating for Eight {
+    ghost limits = { replicate 8 STANDARD };
+}
+
+fn desk_of_eight(alloc: Global) -> Result<Desk<Eight>, AllocError> {
+    Desk::new(alloc, Hall::new(alloc, vec![in alloc; STANDARD; 8]?)?)
+}
 
 // What is asked in these turns.
 pub fn asked(alloc: Global, turns: &[Turn]) -> Result<Vec<u8>, AllocError> {
@@ -118,10 +143,11 @@ pub fn told(alloc: Global, turns: &[Turn]) -> Result<Vec<u8>, AllocError> {
 }
 
 // Tests that a connection ends so and is told this where the write of this number fails, none for 0; and that it leaves its seat.
+// The greeting is one write.
 fn is_served<R: Abort + Wait, S: Read + Drop>(
     rt: &R,
     alloc: Global,
-    desk: &Desk,
+    desk: &Desk<Eight>,
     name: &str,
     reader: S,
     failing: u64,
@@ -137,7 +163,7 @@ fn is_served<R: Abort + Wait, S: Read + Drop>(
 }
 
 // Whether seat 1 can be opened, with nothing stored there, and closed.
-fn is_free<R: Wait>(rt: &R, alloc: Global, desk: &Desk) -> bool {
+fn is_free<R: Wait>(rt: &R, alloc: Global, desk: &Desk<Eight>) -> bool {
     match desk.open(rt, alloc, 1) {
         Ok(pass) => desk.close(rt, pass).is_ok(),
         Err(_) => false,
@@ -148,7 +174,7 @@ fn is_free<R: Wait>(rt: &R, alloc: Global, desk: &Desk) -> bool {
 #[test]
 fn tells_what_is_due(rt: HostRuntime) -> Result<(), AllocError> {
     for (name, turns) in SESSIONS {
-        let desk = desk_of(rt.alloc(), 8)?;
+        let desk = desk_of_eight(rt.alloc())?;
         let told = at_desk(&rt, rt.alloc(), &desk, &desk, name, turns);
         drop(desk);
         told?;
@@ -160,7 +186,7 @@ fn at_desk<R: Abort + Threads + Wait + Sync, H: Host + Sync>(
     rt: &R,
     alloc: Global,
     host: &H,
-    desk: &Desk,
+    desk: &Desk<Eight>,
     name: &str,
     turns: &[Turn],
 ) -> Result<(), AllocError> {
@@ -179,7 +205,7 @@ fn at_desk<R: Abort + Threads + Wait + Sync, H: Host + Sync>(
 }
 
 // Tests that a seat was opened, and is closed.
-fn closes<R: Abort + Wait>(rt: &R, desk: &Desk, held: Result<Pass, DeskFault>) {
+fn closes<R: Abort + Wait>(rt: &R, desk: &Desk<Eight>, held: Result<Pass, DeskFault>) {
     match held {
         Ok(pass) => assert!(rt; desk.close(rt, pass).is_ok()),
         Err(_) => assert!(rt; false, "not opened"),
@@ -191,7 +217,7 @@ fn with_worker<R: Abort + Threads + Wait + Sync, H: Host + Sync>(
     rt: &R,
     alloc: Global,
     host: &H,
-    desk: &Desk,
+    desk: &Desk<Eight>,
     name: &str,
     asked: &[u8],
     told: &[u8],
@@ -209,7 +235,7 @@ fn with_worker<R: Abort + Threads + Wait + Sync, H: Host + Sync>(
 // At a desk without workers, as those that follow.
 #[test]
 fn fills_its_journal(rt: HostRuntime) -> Result<(), AllocError> {
-    let desk = desk_of(rt.alloc(), 8)?;
+    let desk = desk_of_eight(rt.alloc())?;
     desk.stop(&rt);
     let filled = is_filled(&rt, rt.alloc(), &desk, JOURNAL);
     drop(desk);
@@ -219,7 +245,7 @@ fn fills_its_journal(rt: HostRuntime) -> Result<(), AllocError> {
 fn is_filled<R: Abort + Wait>(
     rt: &R,
     alloc: Global,
-    desk: &Desk,
+    desk: &Desk<Eight>,
     turns: &[Turn],
 ) -> Result<(), AllocError> {
     let asked = asked(alloc, turns)?;
@@ -239,7 +265,7 @@ fn is_filled<R: Abort + Wait>(
 // A session that is cut short at any byte, and of whose answers each is not taken in turn.
 #[test]
 fn frees_its_seat(rt: HostRuntime) -> Result<(), AllocError> {
-    let desk = desk_of(rt.alloc(), 8)?;
+    let desk = desk_of_eight(rt.alloc())?;
     desk.stop(&rt);
     let cut = is_cut_short(&rt, rt.alloc(), &desk, SESSION);
     drop(desk);
@@ -249,7 +275,7 @@ fn frees_its_seat(rt: HostRuntime) -> Result<(), AllocError> {
 fn is_cut_short<R: Abort + Wait>(
     rt: &R,
     alloc: Global,
-    desk: &Desk,
+    desk: &Desk<Eight>,
     turns: &[Turn],
 ) -> Result<(), AllocError> {
     let asked = asked(alloc, turns)?;
@@ -281,7 +307,7 @@ fn is_cut_short<R: Abort + Wait>(
 fn ends_behind<R: Abort + Wait>(
     rt: &R,
     alloc: Global,
-    desk: &Desk,
+    desk: &Desk<Eight>,
     asked: &[u8],
     read: usize,
     told: &[u8],
@@ -305,14 +331,14 @@ const SENT: &[u8] =
 // Each answer is written when the last byte of its request was read, and nothing is read behind a QUIT with a seat.
 #[test]
 fn answers_before_it_reads_on(rt: HostRuntime) -> Result<(), AllocError> {
-    let desk = desk_of(rt.alloc(), 8)?;
+    let desk = desk_of_eight(rt.alloc())?;
     desk.stop(&rt);
     is_answered_first(&rt, rt.alloc(), &desk);
     drop(desk);
     Ok(())
 }
 
-fn is_answered_first<R: Abort + Wait>(rt: &R, alloc: Global, desk: &Desk) {
+fn is_answered_first<R: Abort + Wait>(rt: &R, alloc: Global, desk: &Desk<Eight>) {
     let given = Cell::new(0);
     let mut written = Vec::new(alloc);
     let mut reader = Stream::new(Counted {
@@ -326,7 +352,7 @@ fn is_answered_first<R: Abort + Wait>(rt: &R, alloc: Global, desk: &Desk) {
     let ended = serve(rt, alloc, desk, &mut reader, &mut writer);
     assert!(rt; ended.is_ok());
     let wanted =
-        b"7: - E92 no such seat\n13: - E93 seat not claimed\n20: + 0\n61: + 1\nloaded M\n67: + 1\n1 M ready 1\n74: + 1\nran 3 ended\n81: - E10 unknown command\n86: + 0\n";
+        b"0: + 9\naud 2\nseat 1 tasks 64 source 32768\nseat 2 tasks 64 source 32768\nseat 3 tasks 64 source 32768\nseat 4 tasks 64 source 32768\nseat 5 tasks 64 source 32768\nseat 6 tasks 64 source 32768\nseat 7 tasks 64 source 32768\nseat 8 tasks 64 source 32768\n7: - E92 no such seat\n13: - E93 seat not claimed\n20: + 0\n61: + 1\nloaded M\n67: + 1\n1 M ready 1\n74: + 1\nran 3 ended\n81: - E10 unknown command\n86: + 0\n";
     finds(rt, "answers", &written, wanted);
     assert!(rt; given.get() == 86);
 }

@@ -1,4 +1,4 @@
-// A reader that counts what it gives, and a writer that tells the count.
+// A reader that counts what it gives, a writer that tells the count, and one that takes some bytes alone.
 
 use aud_text::digits::push_decimal;
 use std::cell::Cell;
@@ -35,6 +35,25 @@ impl Write for Noted<'_> {
         self.written.extend_from_slice(b": ")?;
         self.written.extend_from_slice(buf)?;
         Ok(buf.len())
+    }
+
+    fn flush(&mut self) -> io::Result<()> {
+        Ok(())
+    }
+}
+
+// Takes so many bytes in all, and no more.
+#[derive(Drop)]
+pub struct Roomy<'a> {
+    pub written: &'a mut Vec<u8>,
+    pub room: usize,
+}
+
+impl Write for Roomy<'_> {
+    fn write(&mut self, buf: &[u8]) -> io::Result<usize> {
+        let count = buf.len().min(self.room.saturating_sub(self.written.len()));
+        self.written.extend_from_slice(&buf[..count])?;
+        Ok(count)
     }
 
     fn flush(&mut self) -> io::Result<()> {

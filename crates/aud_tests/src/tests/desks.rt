@@ -1,10 +1,14 @@
 // Desks: that slices are done without the lock, by workers on threads; and where requests and passes are refused.
 
+ghost use Rattle.std.specs.Prelude.{replicate};
+ghost use Rattle.aud_text.specs.declared.limits.TheConstants.{STANDARD};
+
 use crate::tests::finds;
 use aud_bench::bench::Work;
 use aud_bench::request::Request;
 use aud_desk::desk::Desk;
 use aud_desk::gate::Gate;
+use aud_desk::seating::Seating;
 use aud_hall::hall::Hall;
 use aud_hall::parcel::Parcel;
 use aud_lines::answers::answer_text;
@@ -69,13 +73,19 @@ impl<'a, R: Clock> Holding<'a, R> {
     }
 }
 
-// A desk of so many seats.
-pub fn desk_of(alloc: Global, seats: usize) -> Result<Desk, AllocError> {
-    Desk::new(alloc, Hall::new(alloc, vec![in alloc; STANDARD; seats]?)?)
+// Two seats.
+pub struct Two;
+
+impl Seating for Two {
+    ghost limits = { replicate 2 STANDARD };
+}
+
+pub fn desk_of_two(alloc: Global) -> Result<Desk<Two>, AllocError> {
+    Desk::new(alloc, Hall::new(alloc, vec![in alloc; STANDARD; 2]?)?)
 }
 
 // Sends what loads the program and runs it.
-fn ask<R: Wait>(rt: &R, alloc: Global, desk: &Desk, pass: &mut Pass) -> Result<(), DeskFault> {
+fn ask<R: Wait>(rt: &R, alloc: Global, desk: &Desk<Two>, pass: &mut Pass) -> Result<(), DeskFault> {
     let source = Text::from_slice(alloc, PROGRAM)?;
     desk.submit(rt, alloc, pass, Request::Load(source))?;
     desk.submit(rt, alloc, pass, Request::Run(10))
@@ -85,7 +95,7 @@ fn ask<R: Wait>(rt: &R, alloc: Global, desk: &Desk, pass: &mut Pass) -> Result<(
 fn is_told<R: Abort + Wait>(
     rt: &R,
     alloc: Global,
-    desk: &Desk,
+    desk: &Desk<Two>,
     pass: &mut Pass,
     wanted: &[&[u8]],
 ) -> Result<(), DeskFault> {
@@ -106,7 +116,7 @@ fn is_told<R: Abort + Wait>(
 fn has_run<R: Abort + Wait>(
     rt: &R,
     alloc: Global,
-    desk: &Desk,
+    desk: &Desk<Two>,
     pass: &mut Pass,
 ) -> Result<(), DeskFault> {
     let wanted = [
@@ -120,7 +130,7 @@ fn has_run<R: Abort + Wait>(
 fn both_seats<R: Abort + Clock + Wait>(
     rt: &R,
     alloc: Global,
-    desk: &Desk,
+    desk: &Desk<Two>,
     gate: &Holding<R>,
 ) -> Result<(), DeskFault> {
     let mut first = desk.open(rt, alloc, 1)?;
@@ -132,7 +142,7 @@ fn both_seats<R: Abort + Clock + Wait>(
 fn beside<R: Abort + Clock + Wait>(
     rt: &R,
     alloc: Global,
-    desk: &Desk,
+    desk: &Desk<Two>,
     gate: &Holding<R>,
     first: &mut Pass,
 ) -> Result<(), DeskFault> {
@@ -142,7 +152,7 @@ fn beside<R: Abort + Clock + Wait>(
     has_run(rt, alloc, desk, first)
 }
 
-fn second_seat<R: Abort + Wait>(rt: &R, alloc: Global, desk: &Desk) -> Result<(), DeskFault> {
+fn second_seat<R: Abort + Wait>(rt: &R, alloc: Global, desk: &Desk<Two>) -> Result<(), DeskFault> {
     let mut second = desk.open(rt, alloc, 2)?;
     let asked = ask(rt, alloc, desk, &mut second);
     let told = has_run(rt, alloc, desk, &mut second);
@@ -156,7 +166,7 @@ fn held<R: Abort + Threads + Clock + Wait + Sync, H: Host + Sync, G: Gate + Sync
     alloc: Global,
     host: &H,
     gate: &G,
-    desk: &Desk,
+    desk: &Desk<Two>,
     holding: &Holding<R>,
 ) -> Result<(), DeskFault> {
     thread::scope(thread::scope_env(), rt, |scope| {
@@ -174,7 +184,7 @@ fn held<R: Abort + Threads + Clock + Wait + Sync, H: Host + Sync, G: Gate + Sync
 
 #[test]
 fn a_slice_of_one_seat_is_held(rt: HostRuntime) -> Result<(), DeskFault> {
-    let desk = desk_of(rt.alloc(), 2)?;
+    let desk = desk_of_two(rt.alloc())?;
     let gate = Holding::new(&rt);
     let told = held(&rt, rt.alloc(), &desk, &gate, &desk, &gate);
     drop(desk);
@@ -187,15 +197,15 @@ fn a_slice_of_one_seat_is_held(rt: HostRuntime) -> Result<(), DeskFault> {
 // At desks without workers, which do what is sent at once.
 #[test]
 fn passes(rt: HostRuntime) -> Result<(), DeskFault> {
-    let one = desk_of(rt.alloc(), 2)?;
+    let one = desk_of_two(rt.alloc())?;
     one.stop(&rt);
     let met = at_desk(&rt, rt.alloc(), &one);
     drop(one);
     met
 }
 
-fn at_desk<R: Abort + Wait>(rt: &R, alloc: Global, one: &Desk) -> Result<(), DeskFault> {
-    let other = desk_of(alloc, 2)?;
+fn at_desk<R: Abort + Wait>(rt: &R, alloc: Global, one: &Desk<Two>) -> Result<(), DeskFault> {
+    let other = desk_of_two(alloc)?;
     let met = at_desks(rt, alloc, one, &other);
     drop(other);
     met
@@ -204,8 +214,8 @@ fn at_desk<R: Abort + Wait>(rt: &R, alloc: Global, one: &Desk) -> Result<(), Des
 fn at_desks<R: Abort + Wait>(
     rt: &R,
     alloc: Global,
-    one: &Desk,
-    other: &Desk,
+    one: &Desk<Two>,
+    other: &Desk<Two>,
 ) -> Result<(), DeskFault> {
     let pass = one.open(rt, alloc, 2)?;
     refuses_seats(rt, alloc, one);
@@ -214,11 +224,11 @@ fn at_desks<R: Abort + Wait>(
     is_refused_elsewhere(rt, alloc, one, other)
 }
 
-fn closes<R: Abort + Wait>(rt: &R, desk: &Desk, pass: Pass) {
+fn closes<R: Abort + Wait>(rt: &R, desk: &Desk<Two>, pass: Pass) {
     assert!(rt; desk.close(rt, pass).is_ok());
 }
 
-fn refuses_seats<R: Abort + Wait>(rt: &R, alloc: Global, desk: &Desk) {
+fn refuses_seats<R: Abort + Wait>(rt: &R, alloc: Global, desk: &Desk<Two>) {
     for (seat, fault) in [
         (2, DeskFault::SeatInUse),
         (0, DeskFault::NoSuchSeat),
@@ -228,7 +238,7 @@ fn refuses_seats<R: Abort + Wait>(rt: &R, alloc: Global, desk: &Desk) {
     }
 }
 
-fn is_answered<R: Abort + Wait>(rt: &R, alloc: Global, desk: &Desk) -> Result<(), DeskFault> {
+fn is_answered<R: Abort + Wait>(rt: &R, alloc: Global, desk: &Desk<Two>) -> Result<(), DeskFault> {
     let mut pass = desk.open(rt, alloc, 2)?;
     let told = asks_to_its_end(rt, alloc, desk, &mut pass);
     closes(rt, desk, pass);
@@ -238,7 +248,7 @@ fn is_answered<R: Abort + Wait>(rt: &R, alloc: Global, desk: &Desk) -> Result<()
 fn asks_to_its_end<R: Abort + Wait>(
     rt: &R,
     alloc: Global,
-    desk: &Desk,
+    desk: &Desk<Two>,
     pass: &mut Pass,
 ) -> Result<(), DeskFault> {
     desk.submit(rt, alloc, pass, Request::Output)?;
@@ -255,8 +265,8 @@ fn asks_to_its_end<R: Abort + Wait>(
 fn is_refused_elsewhere<R: Abort + Wait>(
     rt: &R,
     alloc: Global,
-    desk: &Desk,
-    other: &Desk,
+    desk: &Desk<Two>,
+    other: &Desk<Two>,
 ) -> Result<(), DeskFault> {
     let there = other.open(rt, alloc, 1)?;
     let told = asks_at_both(rt, alloc, desk, other);
@@ -267,8 +277,8 @@ fn is_refused_elsewhere<R: Abort + Wait>(
 fn asks_at_both<R: Abort + Wait>(
     rt: &R,
     alloc: Global,
-    desk: &Desk,
-    other: &Desk,
+    desk: &Desk<Two>,
+    other: &Desk<Two>,
 ) -> Result<(), DeskFault> {
     let mut pass = desk.open(rt, alloc, 1)?;
     let asked = desk.submit(rt, alloc, &mut pass, Request::Output);
@@ -281,8 +291,8 @@ fn asks_at_both<R: Abort + Wait>(
 fn is_not_closed<R: Abort + Wait>(
     rt: &R,
     alloc: Global,
-    desk: &Desk,
-    other: &Desk,
+    desk: &Desk<Two>,
+    other: &Desk<Two>,
     pass: Pass,
 ) -> Result<(), DeskFault> {
     match other.close(rt, pass) {
@@ -300,7 +310,7 @@ fn is_not_closed<R: Abort + Wait>(
 fn goes_on<R: Abort + Wait>(
     rt: &R,
     alloc: Global,
-    desk: &Desk,
+    desk: &Desk<Two>,
     pass: Pass,
 ) -> Result<(), DeskFault> {
     let mut pass = pass;

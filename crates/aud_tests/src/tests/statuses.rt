@@ -50,13 +50,26 @@ fn ends_as_its_session_did(rt: HostRuntime) -> Result<(), AllocError> {
 }
 
 // Command lines. Where PORT stands, there is a port that is taken: 3 where the words are accepted.
-const LINES: [(&str, u8); 43] = [
+const LINES: [(&str, u8); 57] = [
     ("aud --port PORT", 3),
     ("aud --port PORT --seats 8", 3),
     ("aud --seats 8 --port PORT", 3),
     ("aud --port PORT --seats 1 --workers 1 --connections 0", 3),
     ("aud --port PORT --seats 64 --workers 16", 3),
     ("aud --port PORT --connections 18446744073709551615", 3),
+    ("aud --port PORT --large 0", 3),
+    ("aud --port PORT --large 8", 3),
+    ("aud --port PORT --large=1", 3),
+    ("aud --port PORT --large 64 --seats 64", 3),
+    ("aud --port PORT --seats 1 --large 1", 3),
+    ("aud --port PORT --large 9", 2),
+    ("aud --port PORT --large 9 --seats 8", 2),
+    ("aud --port PORT --large 2 --seats 1", 2),
+    ("aud --port PORT --large 65 --seats 64", 2),
+    ("aud --port PORT --large x", 2),
+    ("aud --port PORT --large -1", 2),
+    ("aud --port PORT --large", 2),
+    ("aud --port PORT --large 1 --large 1", 2),
     ("aud --port PORT --seats 0", 2),
     ("aud --seats 0 --port PORT", 2),
     ("aud --port PORT --seats 65", 2),
@@ -85,6 +98,7 @@ const LINES: [(&str, u8); 43] = [
     ("aud --port PORT --", 2),
     ("aud --port PORT -- --seats 8", 2),
     ("aud --solo --port PORT", 2),
+    ("aud --solo --large 0", 2),
     ("aud --port 0", 2),
     ("aud --port 65536", 2),
     ("aud --port +7070", 2),

@@ -1,7 +1,7 @@
 -- Worked rows: what a hall replies to a list of events.
 use Rattle.std.specs.Prelude.{◌≡◌, ℕ, List, [], ◌∷◌, Some, None, false, codes}
 use Rattle.aud_text.specs.declared.limits.Limits.{Limits}
-use Rattle.aud_text.specs.declared.limits.TheConstants.{STANDARD}
+use Rattle.aud_text.specs.declared.limits.TheConstants.{STANDARD, LARGE}
 use Rattle.aud_text.specs.declared.refusal.Refusal.TheVariants as refusal
 use Rattle.aud_meaning.specs.declared.state.State.{State}
 use Rattle.aud_meaning.specs.declared.state.State.TheVariants as state
@@ -15,11 +15,8 @@ use Rattle.aud_hall.specs.declared.why.Why.TheVariants.{NoSeat, OtherLimits, Dif
 use Rattle.aud_hall.specs.declared.next.Next.TheVariants.{More, Idle}
 use Rattle.aud_hall.specs.Replies.{Reply, Accepted, Refused, Sent, Worked, Taken, Stranger, Answers}
 use Rattle.aud_worlds.specs.World.{Event, Claim, Submit, SendOut, Slice, CheckIn, Collect, Free, beginning, replies_to}
-use Rattle.aud_worlds.specs.Session.{Began, Submitted, SentOut, Sliced, Returned, Strayed, Freed, session}
-use Rattle.aud_worlds.specs.Mine.{mine}
-
-abbrev pub large : Limits
-large = record { tasks = 256; source = 65_536 }
+use Rattle.aud_worlds.specs.Session.{Began, Submitted, SentOut, Sliced, Returned, Strayed, Collected, Freed, session}
+use Rattle.aud_worlds.specs.Mine.{outset, mine, replies_from}
 
 abbrev pub two : List Limits
 two = STANDARD ∷ STANDARD ∷ []
@@ -128,7 +125,7 @@ TakenOutElsewhere = gives four
 
 -- nor is one with other limits
 abbrev pub WithOtherLimits : Type 0
-WithOtherLimits = gives (STANDARD ∷ large ∷ [])
+WithOtherLimits = gives (STANDARD ∷ LARGE ∷ [])
     (Claim 1 false ∷ Claim 2 false ∷ Submit 1 Output false ∷ SendOut 1 None ∷ CheckIn 0 2 ∷ [])
     (Accepted ∷ Accepted ∷ Accepted ∷ Sent (Some (one_output 0 0)) ∷ Stranger OtherLimits ∷ [])
 
@@ -149,6 +146,21 @@ OutOfMemoryGiving = gives (STANDARD ∷ [])
     ∷ Free 1 ∷ Claim 1 false ∷ Collect 1 0 false ∷ [])
     (Accepted ∷ Accepted ∷ Accepted ∷ Sent None ∷ Answers (answer.Refused refusal.OutOfMemory ∷ []) ∷ Sent None
     ∷ Accepted ∷ Accepted ∷ Answers [] ∷ [])
+
+-- whatever limits the seat beside it has, a session has the same events, and the same replies to them
+abbrev pub beside : List Event
+beside = Claim 2 false ∷ Claim 1 false ∷ Submit 2 Output false ∷ Submit 1 Output false ∷ SendOut 2 None ∷ SendOut 1 None
+    ∷ Slice 0 1 None ∷ Slice 1 1 None ∷ CheckIn 1 1 ∷ CheckIn 0 2 ∷ Collect 2 0 false ∷ Collect 1 0 false ∷ []
+
+abbrev pub TellsBeside : Limits → Type 0
+TellsBeside limits =
+    (mine 1 0 (STANDARD ∷ limits ∷ []) beside
+    ≡ Began STANDARD ∷ Submitted Output false ∷ SentOut None ∷ Sliced 0 1 None ∷ Returned (one_output 1 0) (Some 0) ∷ Collected 0 false ∷ [])
+    × (replies_from 1 (outset 0) (beginning (STANDARD ∷ limits ∷ [])) beside
+    ≡ Accepted ∷ Accepted ∷ Sent (Some (one_output 0 0)) ∷ Worked 1 0 ∷ Taken Idle ∷ Answers (no_program ∷ []) ∷ [])
+
+abbrev pub BesideOthers : Type 0
+BesideOthers = TellsBeside STANDARD × TellsBeside LARGE
 
 -- ## The two sessions of one seat
 
@@ -183,6 +195,7 @@ pub record Rows : Type 0 where
   pub at_nobodys : AtNobodys
   pub taken_out_elsewhere : TakenOutElsewhere
   pub with_other_limits : WithOtherLimits
+  pub beside_others : BesideOthers
   pub out_of_memory_within : OutOfMemoryWithin
   pub out_of_memory_giving : OutOfMemoryGiving
   pub first_session : FirstSession

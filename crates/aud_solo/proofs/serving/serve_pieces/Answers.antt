@@ -6,8 +6,8 @@ use Rattle.aud_solo.proofs.serving.serve_pieces.Goals as goal
 
 pub loop-init : goal.loop-init
 loop-init g c = let words = g.A.Attendant.words in record {
-  served = served_start words (g.S.Source.remaining c.args.reader.now) (g.T.Sink.contents c.args.writer.now) c.args.feed.now c.args.attendant.now c.requires.feed c.requires.fresh;
-  going = c.requires.fresh.going;
+  served = λ before told. served_start words (g.S.Source.remaining c.args.reader.now) before (g.T.Sink.contents c.args.writer.now) c.args.feed.now c.args.attendant.now c.requires.feed told;
+  going = c.requires.going;
   calls = inl (refl, refl);
   read = search rules;
   written = search rules;
@@ -18,9 +18,9 @@ returns-clause-serves g c =
     let words = g.A.Attendant.words in
     let left = g.S.Source.remaining c.args.reader.now in
     let middle = g.S.Source.remaining c.loop.reader in
-    let before = g.T.Sink.contents c.args.writer.now in
     let now = g.T.Sink.contents c.loop.writer in
-    let h = c.loop.invariant.served in
+    λ before told.
+    let h = c.loop.invariant.served before told in
     record {
       all = tt;
       ended = tt;
@@ -31,14 +31,16 @@ returns-clause-serves g c =
 
 pub returns-clause-stops : goal.returns-clause-stops
 returns-clause-stops g c =
-    stops_here g.A.Attendant.words (g.S.Source.remaining c.args.reader.now) (g.S.Source.remaining c.loop.reader) (g.T.Sink.contents c.args.writer.now) (g.T.Sink.contents c.loop.writer) c.loop.feed c.loop.attendant c.loop.invariant.served c.loop.invariant.going
+    λ before told.
+    stops_here g.A.Attendant.words (g.S.Source.remaining c.args.reader.now) (g.S.Source.remaining c.loop.reader) before (g.T.Sink.contents c.loop.writer) c.loop.feed c.loop.attendant (c.loop.invariant.served before told) c.loop.invariant.going
 
 pub returns-clause-reads : goal.returns-clause-reads
-returns-clause-reads g c = (
-  READS,
-  omega arith,
-  turns_counted c.loop.counter READS (g.S.Source.calls c.args.reader.now) (g.S.Source.calls c.loop.reader) c.loop.invariant.calls (omega arith) (omega arith),
-)
+returns-clause-reads g c =
+    inr (
+      READS,
+      omega arith,
+      turns_counted c.loop.counter READS (g.S.Source.calls c.args.reader.now) (g.S.Source.calls c.loop.reader) c.loop.invariant.calls (omega arith) (omega arith),
+    )
 
 pub returns-clause-read : goal.returns-clause-read
 returns-clause-read g c =
@@ -50,9 +52,8 @@ pub loop-preserved : goal.loop-preserved
 loop-preserved g c =
     let words = g.A.Attendant.words in
     let left = g.S.Source.remaining c.args.reader.now in
-    let before = g.T.Sink.contents c.args.writer.now in
     record {
-      served = (c.in_ok-turn.ensures.serves left before c.loop.invariant.served).served;
+      served = λ before told. (c.in_ok-turn.ensures.serves left before (c.loop.invariant.served before told)).served;
       going = goes_of words c.in_ok-turn.field-0 c.turn.new.attendant (g.S.Source.remaining c.turn.new.reader) c.in_ok-turn.ensures.goes_on c.if-not-branch.false;
       calls = inr (turn_counted c.loop.counter (g.S.Source.calls c.args.reader.now) (g.S.Source.calls c.loop.reader) (g.S.Source.calls c.turn.new.reader) c.loop.invariant.calls c.turn.ensures.one);
       read = c.in_ok-turn.ensures.read ∙ c.loop.invariant.read;
@@ -64,9 +65,9 @@ returns-in_err-turn-clause-serves g c =
     let words = g.A.Attendant.words in
     let left = g.S.Source.remaining c.args.reader.now in
     let rest = g.S.Source.remaining c.turn.new.reader in
-    let before = g.T.Sink.contents c.args.writer.now in
     let new = g.T.Sink.contents c.turn.new.writer in
-    let t = c.turn.ensures.serves left before c.loop.invariant.served in
+    λ before told.
+    let t = c.turn.ensures.serves left before (c.loop.invariant.served before told) in
     record {
       all = search rules;
       ended = search rules;
@@ -80,9 +81,9 @@ returns-then-not-branch-clause-serves g c =
     let words = g.A.Attendant.words in
     let left = g.S.Source.remaining c.args.reader.now in
     let rest = g.S.Source.remaining c.turn.new.reader in
-    let before = g.T.Sink.contents c.args.writer.now in
     let new = g.T.Sink.contents c.turn.new.writer in
-    let h = (c.in_ok-turn.ensures.serves left before c.loop.invariant.served).served in
+    λ before told.
+    let h = (c.in_ok-turn.ensures.serves left before (c.loop.invariant.served before told)).served in
     record {
       all = ended_known words left rest before new c.turn.new.feed c.turn.new.attendant h c.in_ok-turn.field-0 c.in_ok-turn.ensures.goes_on c.if-not-branch.true;
       ended = (h.input, h.taken, wrote_all words left rest before new c.turn.new.feed c.turn.new.attendant h);
@@ -93,22 +94,26 @@ returns-then-not-branch-clause-serves g c =
 
 pub returns-in_err-turn-clause-stops : goal.returns-in_err-turn-clause-stops
 returns-in_err-turn-clause-stops g c =
-    (c.turn.ensures.serves (g.S.Source.remaining c.args.reader.now) (g.T.Sink.contents c.args.writer.now) c.loop.invariant.served).stops
+    λ before told.
+    (c.turn.ensures.serves (g.S.Source.remaining c.args.reader.now) before (c.loop.invariant.served before told)).stops
 
 pub returns-then-not-branch-clause-stops : goal.returns-then-not-branch-clause-stops
 returns-then-not-branch-clause-stops g c =
-    (c.turn.ensures.serves (g.S.Source.remaining c.args.reader.now) (g.T.Sink.contents c.args.writer.now) c.loop.invariant.served).stops
+    λ before told.
+    (c.turn.ensures.serves (g.S.Source.remaining c.args.reader.now) before (c.loop.invariant.served before told)).stops
 
 pub returns-in_err-turn-clause-reads : goal.returns-in_err-turn-clause-reads
-returns-in_err-turn-clause-reads g c = (
-  c.loop.counter + 1,
-  omega arith,
-  turn_counted c.loop.counter (g.S.Source.calls c.args.reader.now) (g.S.Source.calls c.loop.reader) (g.S.Source.calls c.turn.new.reader) c.loop.invariant.calls c.turn.ensures.one,
-)
+returns-in_err-turn-clause-reads g c =
+    inr (
+      c.loop.counter + 1,
+      omega arith,
+      turn_counted c.loop.counter (g.S.Source.calls c.args.reader.now) (g.S.Source.calls c.loop.reader) (g.S.Source.calls c.turn.new.reader) c.loop.invariant.calls c.turn.ensures.one,
+    )
 
 pub returns-then-not-branch-clause-reads : goal.returns-then-not-branch-clause-reads
-returns-then-not-branch-clause-reads g c = (
-  c.loop.counter + 1,
-  omega arith,
-  turn_counted c.loop.counter (g.S.Source.calls c.args.reader.now) (g.S.Source.calls c.loop.reader) (g.S.Source.calls c.turn.new.reader) c.loop.invariant.calls c.turn.ensures.one,
-)
+returns-then-not-branch-clause-reads g c =
+    inr (
+      c.loop.counter + 1,
+      omega arith,
+      turn_counted c.loop.counter (g.S.Source.calls c.args.reader.now) (g.S.Source.calls c.loop.reader) (g.S.Source.calls c.turn.new.reader) c.loop.invariant.calls c.turn.ensures.one,
+    )

@@ -1,5 +1,5 @@
-use Rattle.std.proofs.Common.{◌≡◌, false}
-use Rattle.aud_solo.specs.Ties.Serving.{HasServed, CountsTurns}
+use Rattle.std.proofs.Common.{◌≡◌, ℕ, List, [], Option, false}
+use Rattle.aud_solo.specs.Ties.Serving.{HasTold, HasServed, CountsTurns}
 use Rattle.aud_solo.proofs.serving.serve_pieces.Given as goal
 
 abbrev pub invariant-loop : goal.invariant-loop
@@ -8,7 +8,7 @@ invariant-loop g l =
     let source = g.S.Source in
     let sink = g.T.Sink in
     record {
-      served : HasServed words (source.remaining l.fn.reader) (source.remaining l.reader) (sink.contents l.fn.writer) (sink.contents l.writer) l.feed l.attendant;
+      served : (before : Option (List ℕ)) → HasTold words before (sink.contents l.fn.writer) [] l.fn.attendant → HasServed words (source.remaining l.fn.reader) (source.remaining l.reader) before (sink.contents l.writer) l.feed l.attendant;
       going : words.over l.attendant ≡ false;
       calls : CountsTurns l.counter (source.calls l.fn.reader) (source.calls l.reader);
       read : source.failures l.reader ≡ source.failures l.fn.reader;

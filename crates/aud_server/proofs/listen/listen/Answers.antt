@@ -1,6 +1,0 @@
-use denote.Param.Send.{param_sync, arg_sync}
-use Rattle.aud_desk.proofs.Shared.{desk_sync}
-use Rattle.aud_server.proofs.listen.listen.Goals as goal
-
-pub host_all-requires-sync-H : goal.host_all-requires-sync-H
-host_all-requires-sync-H g c = λ κs _. search (desk_sync, param_sync, arg_sync)
