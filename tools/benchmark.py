@@ -26,13 +26,14 @@ from statistics import median
 from time import perf_counter
 
 from calls import library, surroundings
-from load import CLAIMED, MOST_WORKERS, connected, listening, processors
+from load import CLAIMED, MOST_WORKERS, greeted, listening, processors
 
 TIMES = 9  # processes for each figure
 SOURCE = 32_768  # bytes of the largest source text
 LINES = 32_768  # the most lines of a LOAD
 LINE = 1_000  # bytes that are put on a line, which may have 1,024
 LOADS = 20  # LOADs in a session that times them
+LARGE_LOADS = 10  # LOADs of a text at a large seat: those of two lengths fit a session
 # Of nine tasks each goes on, and 500 turns are nearly as many requests as a session may have.
 VIEWS = b"CHOOSE " + b" ".join(b"%d" % (at % 9) for at in range(90)) + b"\nRUN 1000\nMOVES\nTASKS\nQUEUES\nVARS 1\nCLOCK\n"
 TURNS = 500
@@ -703,6 +704,37 @@ def loads(program):
         print(f"  {name:30}{whole * 1e3:8.2f} ms   {whole / quarter:5.1f} times   at most {memory / 1e6:6.1f} MB")
 
 
+def loading_at_large_seat(port, sources):
+    """Seconds of one LOAD of each source text at a large seat, the way of the answer counted."""
+    with greeted(port, large=1) as link, link.makefile("rb") as answers:
+        link.sendall(b"SEAT 1\n")
+        answers.readline()
+        seconds = []
+        for source in sources:
+            begin = perf_counter()
+            for _ in range(LARGE_LOADS):
+                link.sendall(load_of(source).encode())
+                if answers.readline().startswith(b"+"):
+                    answers.readline()
+            seconds.append((perf_counter() - begin) / LARGE_LOADS)
+        link.sendall(b"QUIT\n")
+        answers.read()
+    return seconds
+
+
+def loads_at_large_seat(program):
+    print(f"The same at a large seat, of {2 * SOURCE:,} bytes:")
+    server, port = listening(program, 1, large=1)
+    try:
+        for name, text in shapes():
+            times = [loading_at_large_seat(port, [text(2 * SOURCE), text(SOURCE // 2)]) for _ in range(TIMES)]
+            whole, quarter = (median(it[part] for it in times) for part in (0, 1))
+            print(f"  {name:30}{whole * 1e3:8.2f} ms   {whole / quarter:5.1f} times")
+    finally:
+        server.kill()
+        server.wait()
+
+
 def loads_in_bytes(program, folder):
     """LOADs of lines of one byte, which are refused, and before that read a byte at a time."""
     if not shutil.which(os.environ.get("CC", "cc")):
@@ -827,9 +859,9 @@ def halls(worlds):
 def of_desk(program, work, workers):
     """Steps a second of the listening program where each seat has the same to do. All requests are sent at once, and the answers read
     later: the client has next to nothing to do meanwhile."""
-    server, port = listening(program, workers)
+    server, port = listening(program, workers, large=0)
     try:
-        links = [connected(port) for _ in range(SEATS)]
+        links = [greeted(port, large=0) for _ in range(SEATS)]
         for seat, link in enumerate(links, 1):
             link.sendall(b"SEAT %d\n" % seat)
             if link.recv(LINE) != CLAIMED:
@@ -923,6 +955,7 @@ def main(program, worlds):
         frames(program)
         loads_beside(program, others)
         loads(program)
+        loads_at_large_seat(program)
         loads_in_bytes(program, folder)
         halls(worlds)
         desk(program)

@@ -17,4 +17,4 @@ if [ "$(cat $sessions)" != "$(sed -n 's/^> \{0,1\}//p' "$data")" ] || [ "$(answe
     exit 1
 fi
 cd ../crates/aud_session_tests
-{ printf '%s\n' --halls halls/rows.txt halls/random.txt --programs texts/canonical.txt --sessions; LC_ALL=C ls -p data | grep -v /; } | cmp - args
+{ printf '%s\n' --halls halls/rows.txt halls/limits.txt halls/random.txt --programs texts/canonical.txt --sessions; LC_ALL=C ls -p data | grep -v /; } | cmp - args

@@ -1,7 +1,9 @@
 """Has 64 clients use the listening program at once for a while, half of them badly, and looks at what it answers.
 
 An honest client takes a seat of its own, again and again, and sends a session that chance picks: one request after the other, or all
-of it in pieces of any size. Every byte up to the end of the connection has to be what `aud --solo` answers to the same session.
+of it in pieces of any size. Every byte up to the end of the connection has to be what `aud --solo` answers to the same session, behind
+the greeting. At large seats, which the first are, it has to be what tools/model answers with their limits; long runs, of few tasks and a
+line of text, are answered as by `aud --solo` there too.
 A hostile client does at the other seats what no user should; where it reads answers, these are looked at too. Each client has one
 connection at most. Once all are gone, each seat has to be free, and where 64 are connected a further one waits until one of them ends.
 It tells what it measured, and ends with status 0 where nothing was wrong.
@@ -25,11 +27,15 @@ from dataclasses import dataclass, field
 from pathlib import Path
 from random import Random
 
+from greeting import LARGE, Wrong, limits_of, read_greeting
+
 sys.path.append(str(Path(__file__).resolve().parent / "model"))
 import chance
+from session import answers as told_by_model
 
 HERE = "127.0.0.1"
 SEATS = 64
+LARGE_SEATS = 8  # the first ones, all of honest clients
 HONEST = 32  # clients, each with a seat of its own; the others share the seats behind these
 PROCESSES = 4  # half of them for honest clients
 MOST_WORKERS = 16
@@ -74,7 +80,7 @@ MEGABYTE = b"x" * 1_000_000
 
 @dataclass
 class Session:
-    """Requests up to a QUIT, with the lines of each, and what `aud --solo` answers to each."""
+    """Requests up to a QUIT, with the lines of each, and what a private server answers to each."""
 
     name: str
     requests: list
@@ -170,6 +176,27 @@ def long_ones():
         yield f"long: {40 * count} looks", RACE + b"RUN 7\nSTEP 1\nMOVES\nTASKS\nVARS 2\nCLOCK\n" * 40 * count
 
 
+def large_ones():
+    """Sessions at and past the limits of tasks and of source texts, those of small seats and those of large ones."""
+    by = Random(f"large {SEED}")
+    for count in (63, 64, 100, 128, 200, 254, 255, 256):
+        program = (
+            b"procedure M is task type T; X : Integer := 0; task body T is Y : Integer; begin Y := X; X := Y + 1; end T; "
+            b'begin declare A : array (1 .. %d) of T; begin Put ("in"); end; Put_Line (X\'Image); exception when Storage_Error => Put ("full"); end M;\n' % count
+        )
+        choices = b"CHOOSE " + b" ".join(b"%d" % by.randrange(10_000) for _ in range(150)) + b"\n"
+        looks = b"MOVES\nTASKS\nVARS 1\nVARS %d\n" % (count + 1)
+        yield f"large: {count} tasks", b"LOAD 1\n" + program + choices * 3 + b"RUN %d\n" % by.randrange(400) + looks + b"RUN 100000\nOUTPUT\nRESET\nRUN 7\nTASKS\n"
+    for count in (5_456, 5_457, 5_458, by.randrange(5_459, 10_917), by.randrange(5_459, 10_917), 10_917, 10_918, 10_919):
+        # (these have 21 bytes, 6 for each statement, and 7)
+        lines = b"procedure M is begin\n" + b"null;\n" * count + b"end M;\n"
+        yield f"large: {count} statements", b"LOAD %d\n" % (count + 2) + lines + b"RUN %d\nTASKS\nRUN 100000\n" % by.randrange(1, count)
+    for line in (b"--", b"---"):
+        # (65,536 bytes and one more)
+        lines = b"procedure M is begin null; end M;\n" + b"--\n" * 16_366 + line + b"-\n" + b"\n" * 16_400
+        yield f"large: {LINES} lines, one of {len(line) + 1} bytes", b"LOAD %d\n" % LINES + lines + b"RUN 2\n"
+
+
 def full_ones():
     """Sessions with one request too many."""
     yield "full: CLOCK", b"CLOCK\n" * (REQUESTS + 1)
@@ -193,17 +220,31 @@ def sessions_of(program, folder):
         "files": [found for file in sorted(Path(folder).glob("*.txt")) for found in of_file(file)],
         "chance": list(by_chance()),
         "long": list(long_ones()),
+        "large": list(large_ones()),
         "full": list(full_ones()),
     }
     with ThreadPoolExecutor(processors()) as asking:
         return {group: list(asking.map(lambda found: answered(program, *found), all_of)) for group, all_of in groups.items()}
 
 
+def modelled(session):
+    """A session with the answers of the model at a large seat."""
+    sys.setrecursionlimit(100_000)
+    told = told_by_model(b"".join(session.requests).decode("latin-1"), LARGE).encode("latin-1")
+    return Session(session.name, session.requests, list(answers_of(told)))
+
+
+def of_large(groups):
+    """The sessions of honest clients at large seats."""
+    with multiprocessing.get_context("fork").Pool(processors()) as asking:
+        found = {group: groups[group] if group == "long" else asking.map(modelled, groups[group]) for group in OFTEN}
+    for session in itertools.chain(*found.values()):
+        if len(session.answers) != len(session.requests):
+            sys.exit(f"load: the model does not answer each request of '{session.name}'")
+    return found
+
+
 # What must be answered, and what was.
-
-
-class Wrong(Exception):
-    """Something else is answered than there has to be."""
 
 
 class InUse(Exception):
@@ -266,6 +307,7 @@ class Stage:
     port: int
     until: float
     sessions: dict
+    of_large: dict
     told: itertools.count = field(default_factory=itertools.count)
     large: threading.Lock = field(default_factory=threading.Lock)
 
@@ -288,6 +330,21 @@ def connected(port, room=0):
         link.settimeout(PATIENCE)
         link.connect((HERE, port))
     except OSError:
+        link.close()
+        raise
+    return link
+
+
+def greeted(port, large=LARGE_SEATS, room=0):
+    """A connection whose greeting was read, which tells that so many seats are large."""
+    link = connected(port, room)
+    try:
+        limits, behind = read_greeting(link)
+        if limits != limits_of(SEATS, large):
+            raise Wrong(f"the greeting tells of {len(limits)} seats with other limits than these have")
+        if behind:
+            raise Wrong(f"behind the greeting comes {behind[:60]!r}, before anything was asked")
+    except BaseException:
         link.close()
         raise
     return link
@@ -337,16 +394,19 @@ def exchange(link, pieces, wanted, pause=0.0):
 
 # Honest clients.
 
+OFTEN = {"files": 60, "chance": 20, "long": 10, "large": 10}  # how often they take sessions of these groups
+
 
 def honest(stage, number, tally):
     """A client that asks and reads as a user does."""
     by = Random(f"honest {SEED} {number}")
+    sessions = stage.of_large if number <= LARGE_SEATS else stage.sessions
     while stage.is_on():
-        group = by.choices(["files", "chance", "long"], [70, 20, 10])[0]
-        session = by.choice(stage.sessions[group])
+        group = by.choices(list(OFTEN), list(OFTEN.values()))[0]
+        session = by.choice(sessions[group])
         tally.at = session.name
         try:
-            with closing(connected(stage.port)) as link:
+            with closing(greeted(stage.port)) as link:
                 visit(link, by, number, session, tally)
             tally.sessions += 1
             tally.requests += len(session.requests)
@@ -410,8 +470,12 @@ class Guest:
     stage: Stage
     by: Random
 
-    def connected(self, room=0):
-        return closing(connected(self.stage.port, room))
+    def greeted(self, room=0):
+        return closing(greeted(self.stage.port, room=room))
+
+    def connected(self):
+        """The same, with a greeting that was not read."""
+        return closing(connected(self.stage.port))
 
     def sit(self, link):
         """Takes a seat that is free."""
@@ -436,14 +500,14 @@ class Guest:
 
 
 def half_a_line(guest):
-    with guest.connected() as link:
+    with guest.greeted() as link:
         guest.may_sit(link)
         link.sendall(guest.by.choice([b"RUN 1", b"SEAT 4", b"LOAD", b"QUI", b"LOAD 2\nprocedure M is", b" ", b"\r"]))
         guest.stay(2)
 
 
 def garbage(guest):
-    with guest.connected() as link:
+    with guest.greeted() as link:
         guest.may_sit(link)
         link.sendall(guest.by.randbytes(guest.by.randint(1, 40_000)))
         guest.stay(0.3)
@@ -451,7 +515,7 @@ def garbage(guest):
 
 def endless_line(guest):
     """One line of some MB, behind which a QUIT may come."""
-    with guest.connected() as link:
+    with guest.greeted() as link:
         has_seat = guest.may_sit(link)
         for _ in range(guest.by.randint(1, 4)):
             link.sendall(MEGABYTE)
@@ -463,7 +527,7 @@ def endless_line(guest):
 
 def cut_load(guest):
     """A LOAD whose lines do not all come."""
-    with guest.connected() as link:
+    with guest.greeted() as link:
         guest.may_sit(link)
         link.sendall(b"LOAD 32768\n" + b"null;\n" * guest.by.randint(0, 2_000))
         guest.stay(1)
@@ -474,7 +538,7 @@ def whole_load(guest):
     if not guest.stage.large.acquire(blocking=False):
         return cut_load(guest)
     try:
-        with guest.connected() as link:
+        with guest.greeted() as link:
             has_seat = guest.may_sit(link)
             link.sendall(b"LOAD 32768\n")
             lines = (b"x" * guest.by.choice([LINE - 1, LINE, LINE, LINE + 1]) + b"\n") * 256
@@ -490,7 +554,7 @@ def whole_load(guest):
 
 def unread(guest):
     """Answers that are never read, of long outputs or of long runs."""
-    with guest.connected(room=4_096) as link:
+    with guest.greeted(room=4_096) as link:
         guest.sit(link)
         link.settimeout(1)
         try:
@@ -501,7 +565,7 @@ def unread(guest):
 
 
 def gone(guest):
-    """A session that ends at any byte."""
+    """A session that ends at any byte, of which nothing was read."""
     cut(guest, False)
 
 
@@ -528,7 +592,7 @@ def cut(guest, resets):
 def too_many(guest):
     """A request more than a journal takes, and QUIT."""
     session = guest.by.choice(guest.stage.sessions["full"])
-    with guest.connected() as link:
+    with guest.greeted() as link:
         guest.sit(link)
         exchange(link, iter([b"".join(session.requests)]), Wanted(session.answers))
 
@@ -536,7 +600,7 @@ def too_many(guest):
 def seats(guest):
     """Seats that there are not, no seat, and a seat twice."""
     seat = b"SEAT %d\n" % guest.by.randint(HONEST + 1, SEATS)
-    with guest.connected() as link:
+    with guest.greeted() as link:
         if guest.by.random() < 0.2:
             return
         link.sendall(b"SEAT 0\nSEAT 9999\nSEAT 65\nSEAT 10000\nSEAT\nSEAT 33 34\n\nRUN 1\nQUIT\nLOAD 1\nQUIT\n")
@@ -588,13 +652,13 @@ def processors():
     return len(os.sched_getaffinity(0))
 
 
-def listening(program, workers):
-    """The program once it listens, and its port. Whoever asks for it ends it, also where they are told to end."""
+def listening(program, workers, large=LARGE_SEATS):
+    """The program once it listens, with so many large seats, and its port. Whoever asks for it ends it, also where they are told to end."""
     signal.signal(signal.SIGTERM, lambda *_: sys.exit(1))
     with socket.socket() as free:
         free.bind((HERE, 0))
         port = free.getsockname()[1]
-    words = [program, "--seats", str(SEATS), "--workers", str(workers), "--port", str(port)]
+    words = [program, "--seats", str(SEATS), "--large", str(large), "--workers", str(workers), "--port", str(port)]
     server = subprocess.Popen(words, stdin=subprocess.DEVNULL, stdout=subprocess.DEVNULL)
     for _ in range(100):
         try:
@@ -715,7 +779,7 @@ def seats_in_use(port):
     for seat in range(1, SEATS + 1):
         while True:
             try:
-                with closing(connected(port)) as link:
+                with closing(greeted(port)) as link:
                     link.settimeout(SETTLING)
                     exchange(link, iter([b"SEAT %d\n" % seat, b"QUIT\n"]), Wanted([CLAIMED, CLAIMED]))
                 break
@@ -728,20 +792,21 @@ def seats_in_use(port):
 
 
 def further_one(port):
-    """What is wrong with a client's connection while as many are served as may be: it is answered before one of them ends, or not
-    behind that."""
-    served = [connected(port) for _ in range(CLIENTS)]
+    """What is wrong with a client's connection while as many are served as may be: it is greeted before one of them ends, or not
+    answered behind that."""
+    served = []
     try:
-        for link in served:
-            link.sendall(b"\n")
-            link.recv(1 << 10)
+        for _ in range(CLIENTS):
+            served.append(greeted(port))
         further = connected(port)
         served.append(further)
         further.sendall(b"SEAT 1\nQUIT\n")
         if select.select([further], [], [], WAITS)[0]:
-            return f"a client is answered beside {CLIENTS} others"
+            return f"a client is greeted beside {CLIENTS} others"
         served.pop(0).close()
+        _, behind = read_greeting(further)
         wanted = Wanted([CLAIMED, CLAIMED])
+        wanted.take(behind)
         read_out(further, wanted)
         return None
     except (Wrong, OSError) as fault:
@@ -751,23 +816,34 @@ def further_one(port):
             link.close()
 
 
+def look_at_greeting(program, port):
+    """Ends where the program does not greet as it must."""
+    try:
+        greeted(port).close()
+    except (Wrong, OSError) as fault:
+        sys.exit(f"load: {program} on port {port}: {fault}")
+
+
 def load(program, folder, seconds):
     """The number of things that were wrong."""
     groups = sessions_of(program, folder)
     for session in groups["full"]:
         if session.answers[-2:] != [FULL, CLAIMED]:
             sys.exit(f"load: {program} --solo does not answer the end of '{session.name}' by a full journal")
+    at_large = of_large(groups)
+    others = sum(one.answers != other.answers for group in at_large for one, other in zip(groups[group], at_large[group]))
     workers = min(MOST_WORKERS, processors())
     count = sum(len(group) for group in groups.values())
-    print(f"load: {SEATS} clients for {seconds:g} seconds, {workers} workers, {count} sessions", flush=True)
+    print(f"load: {SEATS} clients for {seconds:g} seconds, {workers} workers, {count} sessions, {others} of which are answered otherwise at {LARGE_SEATS} large seats", flush=True)
     server, port = listening(program, workers)
     begun = []
     try:
+        look_at_greeting(program, port)
         if seats_in_use(port):
             sys.exit(f"load: {program} has seats in use at first")
         time.sleep(0.5)
         before, start = held(server), time.monotonic()
-        stage = Stage(port, start + seconds, groups)
+        stage = Stage(port, start + seconds, groups, at_large)
         begun = begin(stage)
         tenth, last = watch(server, stage, seconds)
         whole = gather(begun)

@@ -1,13 +1,19 @@
-"""Loads and runs the largest source text of every shape by `aud --solo` on a stack of 1 MiB, or of another number of KiB.
+"""Loads and runs the largest source text of every shape on a stack of so many KiB: by `aud --solo`, and with `large` at a large seat of
+the listening program, whose threads have such stacks.
 
 A text is long (one chain of operators, one list of statements or of names) or nested (parentheses at
 the limit of levels), or both. tools/check calls it.
+usage: stack.py PROGRAM KIBIBYTES [large]
 """
 import resource
+import socket
 import subprocess
 import sys
+import time
 
-SOURCE = 32_768  # bytes of the largest source text
+from greeting import read_greeting
+
+SOURCE = 32_768  # bytes of the largest source text; at a large seat twice as many
 LINE = 1_000  # bytes that are put on a line, which may have 1,024
 DEEP = 199  # parentheses that fit into the statements of a body at the limit of 200 levels
 
@@ -256,18 +262,45 @@ def shapes():
     yield "parentheses without an end", text, "- E23"
 
 
+def asked(text):
+    return f"LOAD {text.count(chr(10))}\n{text}RUN 100000\nQUIT\n".encode()
+
+
+def limited(size):
+    """What is done in a process before its program runs."""
+    return lambda: resource.setrlimit(resource.RLIMIT_STACK, (size * 1_024, size * 1_024))
+
+
 def answered(program, text, size):
-    lines = text.count("\n")
-    said = f"LOAD {lines}\n{text}RUN 100000\nQUIT\n"
-    size *= 1_024
-    return subprocess.run(
-        [program, "--solo"],
-        input=said.encode(),
-        capture_output=True,
-        preexec_fn=lambda: resource.setrlimit(resource.RLIMIT_STACK, (size, size)),
-        timeout=60,
-        check=False,
-    )
+    """What `aud --solo` answers, and its status."""
+    done = subprocess.run([program, "--solo"], input=asked(text), capture_output=True, preexec_fn=limited(size), timeout=60, check=False)
+    return done.stdout.decode(), done.returncode
+
+
+def answered_at_large_seat(program, text, size):
+    """What a client at a large seat is answered, and the status of the program, which serves it alone."""
+    with socket.socket() as found:
+        found.bind(("127.0.0.1", 0))
+        port = found.getsockname()[1]
+    words = [program, "--seats", "1", "--large", "1", "--workers", "1", "--connections", "1", "--port", str(port)]
+    server = subprocess.Popen(words, stdin=subprocess.DEVNULL, preexec_fn=limited(size))
+    try:
+        while True:
+            try:
+                client = socket.create_connection(("127.0.0.1", port), 60)
+                break
+            except ConnectionRefusedError:
+                if server.poll() is not None:
+                    return "", server.returncode
+                time.sleep(0.01)
+        with client:
+            said = read_greeting(client)[1]
+            client.sendall(b"SEAT 1\n" + asked(text))
+            while piece := client.recv(1 << 16):
+                said += piece
+        return said.decode().removeprefix("+ 0\n"), server.wait(60)
+    finally:
+        server.kill()
 
 
 def is_right(answer, result):
@@ -279,19 +312,24 @@ def is_right(answer, result):
     return answer.startswith(result)
 
 
-def main(program, size):
+def main(program, size, large):
+    global SOURCE
+    ask = answered
+    if large:
+        SOURCE *= 2
+        ask = answered_at_large_seat
     failed = 0
     for shape, text, result in shapes():
         assert len(text) <= SOURCE and max(map(len, text.split("\n"))) < 1_024, shape
-        done = answered(program, text, size)
-        good = done.returncode == 0 and is_right(done.stdout.decode(), result)
+        answer, status = ask(program, text, size)
+        good = status == 0 and is_right(answer, result)
         failed += not good
         print(f"{'good' if good else 'BAD '}  {size} KiB  {len(text):6} bytes  {shape}")
         if not good:
-            print(f"      status {done.returncode}: {done.stdout[:120]!r}")
+            print(f"      status {status}: {answer[:120]!r}")
     print(f"{failed} of the shapes failed" if failed else "every shape is answered")
     return 1 if failed else 0
 
 
 if __name__ == "__main__":
-    sys.exit(main(sys.argv[1], int(sys.argv[2])))
+    sys.exit(main(sys.argv[1], int(sys.argv[2]), sys.argv[3:] == ["large"]))

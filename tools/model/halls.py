@@ -1,16 +1,20 @@
 """Lists of random calls of a hall, with the replies that must come: a hall that shares nothing with the crates, around the servers of session.py.
 
 tools/check calls it with the program, the first seed and how many to take; with `write`, a first seed and a number it writes such lists as
-crates/aud_session_tests/data/halls has them."""
+crates/aud_session_tests/data/halls has them. The lists there that are worked out by hand must have the model's replies too."""
 import random
 import subprocess
 import sys
 import tempfile
 from pathlib import Path
 
+import compare
 import session
+from state import LARGE, STANDARD
 
-STORED = Path(__file__).resolve().parents[2] / "crates/aud_session_tests/data/halls/random.txt"
+FOLDER = Path(__file__).resolve().parents[2] / "crates/aud_session_tests/data/halls"
+STORED, BY_HAND = FOLDER / "random.txt", (FOLDER / "rows.txt", FOLDER / "limits.txt")
+WORDS = {"standard": STANDARD, "large": LARGE}
 SEATS, CALLS, MOST = 4, 100, 2**64 - 1
 LIMITS = ["standard", "standard", "standard", "large"]
 ENDS = "LOAD 1|procedure M is begin null; end M;"
@@ -19,26 +23,28 @@ TASKS = (
     'LOAD 1|procedure M is task A; task B; task body A is begin loop Put ("a"); end loop; end A; '
     'task body B is begin loop Put ("b"); end loop; end B; begin null; end M;'
 )
-# The model of a server takes only programs that are right.
 WRONG = "LOAD 1|procedure M is begin X := 1; end M;"
-TOLD_WRONG = "- E30 1:22 name not declared\n"
 
 
 class Server:
     """What a private server answers, and what each request costs."""
 
-    def __init__(self):
-        self.session, self.served = session.Session(), []
+    def __init__(self, limits):
+        self.session, self.served = session.Session(limits), []
 
     def ask(self, request):
+        """Whether its journal has room for the request."""
         units = self.session.units
         [asked] = session.requests(request.replace("|", "\n") + "\n")
+        if not self.session.has_room(asked):
+            return False
         try:
-            lines = None if request == WRONG else self.session.answer(asked)
-            answer = TOLD_WRONG if lines is None else "".join(line + "\n" for line in [f"+ {len(lines)}", *lines])
+            lines = self.session.answer(asked)
+            answer = "".join(line + "\n" for line in [f"+ {len(lines)}", *lines])
         except session.Refused as refused:
-            answer = f"- E{refused.number} {session.REFUSALS[refused.number]}\n"
+            answer = refused.line() + "\n"
         self.served.append((answer, max(1, self.session.units - units)))
+        return True
 
 
 class Bench:
@@ -58,14 +64,14 @@ class Bench:
 
 class Seat:
     def __init__(self, limits):
-        self.requests, self.server, self.outbox, self.home = [], Server(), 0, Bench(limits)
+        self.requests, self.server, self.outbox, self.home = [], Server(limits), 0, Bench(limits)
 
 
 class Hall:
     """A seat is None while nobody has claimed it, and a parcel once it was taken in."""
 
-    def __init__(self, limits):
-        self.limits, self.seats, self.out = limits, [None] * len(limits), []
+    def __init__(self, words):
+        self.limits, self.seats, self.out = [WORDS[word] for word in words], [None] * len(words), []
 
     def seat(self, number):
         """The seat, or why there is none."""
@@ -84,7 +90,8 @@ class Hall:
         there, why = self.seat(number)
         if not there or there.requests[-1:] == ["QUIT"]:
             return why
-        there.server.ask(request)
+        if not there.server.ask(request):
+            return "E13 journal full"
         there.requests.append(request)
         return "accepted"
 
@@ -229,6 +236,24 @@ class Drawn:
         return "\n".join(told) + "\n"
 
 
+def replies(sent):
+    """The replies to the calls of a text, the first line of which is the hall."""
+    first, *calls = sent.split("\n")[:-1]
+    hall, told = Hall(first.split(" ")[1:]), ""
+    for call in calls:
+        word, place, *rest = call.split(" ", 2)
+        told += getattr(hall, word)(int(place), *(rest if word == "submit" else map(int, rest))) + "\n"
+    return told
+
+
+def other_by_hand():
+    """The lists worked out by hand whose replies are not the model's."""
+    for file in BY_HAND:
+        for name, sent, told in compare.sessions(file.read_text(encoding="latin-1")):
+            if replies(sent) != told:
+                yield f"{file.name}: {name}"
+
+
 def lists(first, count):
     """The text of so many lists."""
     return "\n".join(Drawn(seed).text(f"list {seed}") for seed in range(first, first + count))
@@ -250,7 +275,10 @@ def main(program, first, count):
     if STORED.read_text(encoding="latin-1") != lists(1, names):
         print("halls: the stored lists are not the model's")
         return 1
-    return compared(program, first, count)
+    others = list(other_by_hand())
+    for name in others:
+        print(f"halls: the replies are not the model's: {name}")
+    return compared(program, first, count) or int(others != [])
 
 
 if __name__ == "__main__":

@@ -7,9 +7,10 @@ import checking
 import listings
 from meaning import Machine
 from reading import Reader
+from state import STANDARD
 from tokens import Fault
 
-STEPS, CHOICES, SOURCE, LINE, REQUESTS, REQUEST_BYTES = 1_000_000, 10_000, 32_768, 1_024, 4_096, 1_048_576
+STEPS, CHOICES, LINE, REQUESTS, REQUEST_BYTES = 1_000_000, 10_000, 1_024, 4_096, 1_048_576
 NUMBER = re.compile("[0-9]{1,10}")
 RANGES = {"LOAD": (0, 32_768), "RUN": (1, 100_000), "STEP": (0, 9_999), "CHOOSE": (0, 9_999), "ADVANCE": (0, 10**9), "VARS": (0, 9_999), "SEAT": (0, 9_999)}
 ALONE = ("RESET", "CLOCK", "MOVES", "TASKS", "QUEUES", "OUTPUT", "QUIT")
@@ -120,15 +121,19 @@ def checked(source):
 
 
 class Session:
-    """What is loaded, the requests of the journal and their bytes, and the units that they have cost."""
+    """The limits of its seat, what is loaded, the requests of the journal and their bytes, and the units that they have cost."""
 
-    def __init__(self):
-        self.machine = None
+    def __init__(self, limits=STANDARD):
+        self.limits, self.machine = limits, None
         self.kept, self.bytes, self.units = 0, 0, 0
+
+    def has_room(self, request):
+        """Whether the journal takes it."""
+        return request.word == "QUIT" or self.kept < REQUESTS and self.bytes + request.size() <= REQUEST_BYTES
 
     def answer(self, request):
         """Its lines."""
-        if request.word != "QUIT" and (self.kept == REQUESTS or self.bytes + request.size() > REQUEST_BYTES):
+        if not self.has_room(request):
             raise Refused(13)
         self.kept, self.bytes = self.kept + 1, self.bytes + request.size()
         before = self.machine.steps if self.machine and request.word in ("RUN", "STEP") else None
@@ -151,13 +156,13 @@ class Session:
         return getattr(self, request.word.lower())(*([request.numbers] if request.word == "CHOOSE" else request.numbers))
 
     def load(self, source):
-        if len(source) > SOURCE:
+        if len(source) > self.limits.source:
             raise Refused(22)
-        self.machine = Machine(checked(source))
+        self.machine = Machine(checked(source), self.limits)
         return [f"loaded {self.machine.program.name}"]
 
     def reset(self):
-        self.machine = Machine(self.machine.program)
+        self.machine = Machine(self.machine.program, self.limits)
         return []
 
     def run(self, count):
@@ -214,9 +219,9 @@ class Session:
         return [f"bytes {len(self.machine.output)}"] + (lines if lines[-1] else lines[:-1])
 
 
-def answers(sent):
-    """The text of all answers to the text that is sent."""
-    session, told = Session(), []
+def answers(sent, limits=STANDARD):
+    """The text of all answers to the text that is sent, at a seat with these limits."""
+    session, told = Session(limits), []
     for request in requests(sent):
         try:
             lines = session.answer(request)

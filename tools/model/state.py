@@ -6,7 +6,18 @@ from trees import Entry, Operation, Procedure, TaskBody
 LOWEST, HIGHEST = -(2**31), 2**31 - 1
 FIRST = {"INTEGER": LOWEST, "NATURAL": 0, "POSITIVE": 1}
 NEAREST_ZERO = {"INTEGER": 0, "NATURAL": 0, "POSITIVE": 1, "BOOLEAN": False}
-OUTPUT, TASKS, OBJECTS, FRAMES, ELEMENTS = 65_536, 64, 64, 128, 1_024
+OUTPUT, OBJECTS, FRAMES, ELEMENTS = 65_536, 64, 128, 1_024
+
+
+@dataclass(frozen=True)
+class Limits:
+    """Those of a seat: tasks of a program, main counted, and bytes of a source text."""
+
+    tasks: int
+    source: int
+
+
+STANDARD, LARGE = Limits(64, 32_768), Limits(256, 65_536)
 
 
 class AdaException(Exception):
