@@ -24,14 +24,16 @@ class Aborting:
     def cancel_queued(self, task):
         for unit in [*self.tasks, *self.objects]:
             for queue in unit.queues.values():
-                for call in [call for call in queue if call.caller is task]:
+                for call in [call for call in queue if call.caller is task and not call.stays]:
                     queue.remove(call)
                     call.is_cancelled = True
                     task.status, task.withdraws = "running", call if call.object else None
 
     def is_deferred(self, task):
-        """In a protected action, in the call that it makes, or at the end of a master, that of its body among them."""
-        return self.is_acting(task) or task.status == "rendezvous" or not task.waits and task.next.master is not None
+        """In a protected action or before one that makes a call again, in the call that it makes or queued by one that stays, or at the end
+        of a master, that of its body among them."""
+        is_called = task.status == "rendezvous" or task.status == "queued" and task.call.stays
+        return self.is_acting(task) or task.is_restarting or is_called or not task.waits and task.next.master is not None
 
     def due(self, task):
         """The step that it does next, in place of the one before which it stands where an abort says so."""

@@ -15,13 +15,15 @@ INDEXES = ("1", "1", "2", "0")
 class Writer:
     """What is visible is a list of kinds and names: variable, constant, array, exception, procedure, function, task, tasks, label; entry
     and entries, with the names of the task or protected object, or the array of tasks, and the modes of their formals; accept, an entry
-    of the task itself with its formals, where it may be accepted; count, where its Count may stand, and own in a protected body."""
+    of the task itself with its formals, where it may be accepted; count, where its Count may stand, and own in a protected body; again, an
+    entry on which a call may be made again."""
 
-    def __init__(self, seed, with_tasks, with_objects=False, with_aborts=False):
+    def __init__(self, seed, with_tasks, with_objects=False, with_aborts=False, with_requeues=False):
         self.by = random.Random(seed)
         self.with_tasks = with_tasks
         self.with_objects = with_objects
         self.with_aborts = with_aborts
+        self.with_requeues = with_requeues
         self.count = 0
         self.size = 0
 
@@ -107,7 +109,7 @@ class Writer:
         return [f"{', '.join(names)} : {self.pick('Integer', 'Integer', 'Natural', 'Positive')}{value};"]
 
     def procedure(self, seen, depth):
-        name, inner = self.fresh("P"), self.without(seen, "label", "accept", "count")
+        name, inner = self.fresh("P"), self.without(seen, "label", "accept", "count", "again")
         formals, text = self.formals()
         inner += self.seen_within(formals)
         lines = [f"procedure {name}{text} is"] + self.part(inner, depth - 1) + self.body(inner, depth - 1, True, f" {name}")
@@ -117,7 +119,8 @@ class Writer:
     def formals(self):
         """Names and modes, and their text."""
         formals = [(self.fresh("F"), self.pick("in", "out", "in out")) for _ in range(self.pick(0, 0, 1, 2))]
-        text = "; ".join(f"{formal} : {mode} {self.pick('Integer', 'Natural')}" for formal, mode in formals)
+        subtypes = ("Integer",) if self.with_requeues and self.often(0.9) else ("Integer", "Natural")
+        text = "; ".join(f"{formal} : {mode} {self.pick(*subtypes)}" for formal, mode in formals)
         return formals, f" ({text})" if text else ""
 
     def seen_within(self, formals):
@@ -169,7 +172,7 @@ class Writer:
         return lines
 
     def task_body(self, name, entries, seen, depth):
-        inner = [it for it in self.without(seen, "label", "accept", "count") if it != ("task", name)] + [("task", name)]
+        inner = [it for it in self.without(seen, "label", "accept", "count", "again") if it != ("task", name)] + [("task", name)]
         for entry, formals, text in entries:
             inner += [("accept", (entry, formals, text)), ("count", entry)]
         part = self.part(inner, depth - 1) if self.often(0.6) else []
@@ -208,7 +211,7 @@ class Writer:
 
     def nest(self, seen):
         """A task in whose block others are declared; there, and behind it, it waits or accepts a call."""
-        name, inner, entry = self.fresh("T"), self.without(seen, "label", "accept", "count"), self.fresh("N")
+        name, inner, entry = self.fresh("T"), self.without(seen, "label", "accept", "count", "again"), self.fresh("N")
         lines = [f"task {name} is", f"entry {entry};", f"end {name};", f"task body {name} is", "begin", "declare"]
         inner += [("task", name)]
         for _ in range(self.pick(1, 2)):
@@ -305,7 +308,7 @@ class Writer:
         return found
 
     def object_body(self, name, operations, components, seen):
-        others = [it for it in self.without(seen, "label", "accept", "count") if it not in self.operations_outside(name, operations)]
+        others = [it for it in self.without(seen, "label", "accept", "count", "again") if it not in self.operations_outside(name, operations)]
         if self.often(0.7):
             others = self.without(others, "entry", "entries")
         others += [("own", operation) for kind, operation, *_ in operations if kind == "entry"]
@@ -318,6 +321,8 @@ class Writer:
             barrier = f" when {self.barrier(others, components)}" if kind == "entry" else ""
             lines.append(f"{self.heading(kind, operation, text)}{barrier} is")
             inner += self.seen_within(formals)
+            if kind == "entry":
+                inner += self.targets([(it[1], self.modes(it[2])) for it in operations if it[0] == "entry"], formals)
             lines += self.operation_body(inner, components, kind, operation)
         return lines + [f"end {name};"]
 
@@ -404,6 +409,8 @@ class Writer:
             return [call]
         if self.with_aborts and self.often(0.05):
             return [self.delay(seen)] * self.often(0.7) + [self.abort(seen)]
+        if self.with_requeues and self.often(0.2) and (targets := self.named(seen, "again")):
+            return [f"requeue {self.pick(*targets)}{self.pick('', ' with abort')};"]
         if self.with_tasks and self.often(0.4 if self.named(seen, "entry", "entries") else 0.05):
             return self.tasking(seen, depth, returns, handling)
         if kind < 0.63 or depth <= 0:
@@ -491,11 +498,21 @@ class Writer:
         head = f"accept {entry}{text}"
         if self.often(0.2):
             return [f"{head};"]
-        inner = [it for it in self.without(seen, "label") if it != ("accept", accept)] + self.seen_within(formals)
+        inner = [it for it in self.without(seen, "label", "again") if it != ("accept", accept)] + self.seen_within(formals)
+        named = [(f"{task}{self.index(seen) if kind == 'entries' else ''}.{name}", modes) for kind, task, name, modes in self.entries_seen(seen)]
+        own = [(name, self.modes(others)) for name, others, _ in self.named(seen, "accept")]
+        inner += self.targets(named + own, formals) if self.with_requeues else []
         lines = [f"{head} do"] + self.statements(inner, depth - 1, True, handling)
         if self.often(0.15):
             lines += self.handlers(inner, depth - 1, True)
         return lines + [f"end {entry};"]
+
+    def entries_seen(self, seen):
+        return [(kind, *name) for kind, name in seen if kind in ("entry", "entries")] if self.with_requeues else []
+
+    def targets(self, entries, formals):
+        """Those on which a call with these formals may be made again."""
+        return [("again", name) for name, modes in entries if modes in ((), self.modes(formals))]
 
     def select(self, seen, depth, returns, handling, last):
         lines = ["select"]
@@ -633,12 +650,12 @@ def load(program):
     return [f"LOAD {len(program)}"] + program
 
 
-def session(seed, with_tasks, with_objects=False, with_aborts=False):
+def session(seed, with_tasks, with_objects=False, with_aborts=False, with_requeues=False):
     """The lines that are sent."""
-    program = Writer(seed, with_tasks, with_objects, with_aborts).program()
+    program = Writer(seed, with_tasks, with_objects, with_aborts, with_requeues).program()
     while len(program) > LINES or any(len(line) > 1_000 for line in program):
         seed += 1_000_003
-        program = Writer(seed, with_tasks, with_objects, with_aborts).program()
+        program = Writer(seed, with_tasks, with_objects, with_aborts, with_requeues).program()
     by = random.Random(seed)
     lines = load(program) + requests(by, with_tasks, with_aborts)
     for number in range(3 * BROKEN if with_objects else BROKEN):

@@ -4,7 +4,7 @@ from itertools import groupby
 
 from trees import (
     Abort, Accept, Arrays, Assign, Attribute, Block, Call, Delay, Exceptions, Exit, If, Loop, Name, Number, Objects, Offer, Procedure,
-    Protected, ProtectedBody, Raise, Return, Select, String, Task, TaskBody, Unary,
+    Protected, ProtectedBody, Raise, Requeue, Return, Select, String, Task, TaskBody, Unary,
 )
 
 TYPES = {"INTEGER": "number", "NATURAL": "number", "POSITIVE": "number", "BOOLEAN": "truth"}
@@ -31,10 +31,17 @@ class Known:
 
 
 class Region:
-    """Its names; None is what one stands for while it is being declared."""
+    """Its names; None is what one stands for while it is being declared. Whether it is an accept's, and whether a task's body's."""
 
-    def __init__(self, outer):
+    def __init__(self, outer, of_accept=False, of_task=False):
         self.outer, self.names = outer, {}
+        self.of_accept, self.of_task = of_accept, of_task
+
+    def outwards(self):
+        region = self
+        while region:
+            yield region
+            region = region.outer
 
     def nearest(self, name):
         region = self
@@ -65,7 +72,8 @@ def predefined():
 class Within:
     """What is around a statement: its names; the task whose body this is, if no procedure is between, and the entries that are being
     accepted; the protected objects within whose bodies it is, and those within whose functions; the loops and blocks, innermost last,
-    with their labels; whether it may return, and the function from which it returns; whether it is handled here."""
+    with their labels; whether it may return, and the function from which it returns; whether it is handled here; the formals of the
+    accept or entry body whose call a requeue makes again, if it may, and the object of that body."""
 
     region: Region
     unit: Task = None
@@ -76,6 +84,7 @@ class Within:
     returns: bool = False
     function: Known = None
     handles: bool = False
+    requeues: tuple = None
 
     def body(self, region, **others):
         """Of a procedure, an operation or a unit that is declared here."""
@@ -213,7 +222,7 @@ class Check:
 
     def task_body(self, task_body, known, within):
         outer = Region(within.region)
-        region = Region(outer)
+        region = Region(outer, of_task=True)
         region.names.update(known.region.names if known.region else {})
         outer.names[task_body.name] = Known("task", unit=known.unit, region=region)
         self.body(task_body.body, within.body(region, unit=known.unit), task_body.name)
@@ -268,7 +277,8 @@ class Check:
         region.names.update(known.region.names)
         is_function = operation.kind == "function"
         functions = within.functions + ((protected,) if is_function else ())
-        inside = replace(within.body(region, returns=True, function=known if is_function else None), functions=functions)
+        requeues = (operation.formals, protected) if operation.kind == "entry" else None
+        inside = replace(within.body(region, returns=True, function=known if is_function else None, requeues=requeues), functions=functions)
         self.body(operation.body, inside, operation.name)
 
     def closes(self, construct, name):
@@ -337,6 +347,8 @@ class Check:
         elif isinstance(statement, Abort):
             for name in statement.names:
                 self.aborted(name, within)
+        elif isinstance(statement, Requeue):
+            self.requeue(statement, within)
         elif isinstance(statement, Accept):
             self.accept(statement, within)
         elif isinstance(statement, Select):
@@ -389,7 +401,7 @@ class Check:
 
     def accept(self, accept, within):
         known = self.visible(accept.name, within)
-        region = Region(within.region)
+        region = Region(within.region, of_accept=True)
         self.formals(accept.formals, region)
         if known and known.kind == "entry":
             self.unless(known.unit is within.unit and accept.name not in within.accepting, 38, accept.name.place)
@@ -397,8 +409,35 @@ class Check:
         elif known:
             self.fault(wrong(known), accept.name.place)
         if accept.body:
-            inside = replace(within, region=region, accepting=(*within.accepting, accept.name), around=(), returns=True, function=None)
+            accepting, requeues = (*within.accepting, accept.name), (accept.formals, None)
+            inside = replace(within, region=region, accepting=accepting, around=(), returns=True, function=None, requeues=requeues)
             self.body(accept.body, inside, accept.name)
+
+    def requeue(self, statement, within):
+        name = statement.name
+        self.unless(within.requeues, 50, statement.place)
+        known = self.resolved(name, within)
+        if not known or not self.has_index(known, name, within):
+            return
+        if known.kind in ("procedure", "function", "put"):
+            self.fault(49, name.name.place)
+        elif known.kind != "entry":
+            self.fault(32, name.name.place)
+        else:
+            self.unless(not name.arguments, 34, name.name.place)
+            if within.requeues:
+                self.target(known, name, *within.requeues, within)
+
+    def target(self, entry, name, formals, protected, within):
+        """The entry has no formals or those of the accept or body, but for their names (RM 9.5.4(3)); it is of the body's own object; and
+        what it belongs to is declared within no accept around, nor, where an accept makes its call again on an object, within a task."""
+        place, given = name.name.place, [(formal.mode, formal.subtype) for formal in formals]
+        self.unless(not entry.formals or [(formal.mode, formal.subtype) for formal in entry.formals] == given, 39, place)
+        self.unless(not protected or entry.unit is protected, 51, place)
+        around = list(within.region.nearest([*name.prefix, name][0].name).outwards())
+        is_to_object = not protected and isinstance(entry.unit, Protected)
+        is_inside = any(region.of_accept or is_to_object and region.of_task for region in around)
+        self.unless(not is_inside, 52, place)
 
     def conform(self, known, other):
         """A formal or a result of a faulty subtype agrees with any."""

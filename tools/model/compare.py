@@ -1,6 +1,6 @@
 """Compares the answers of the model with those of sessions that are written down, and with those of `aud --solo` on programs made by
 chance. tools/check calls it, with the program, the first seed and how many seeds to take, and `tasks` where the programs may have tasks,
-`protected` where they have protected objects too, `abort` where they abort tasks besides."""
+`protected` where they have protected objects too, `abort` where they abort tasks besides, `requeue` where they make calls again besides."""
 import re
 import subprocess
 import sys
@@ -50,7 +50,7 @@ def compare_sessions():
 def compare_programs(program, first, count, kind):
     other = refused = 0
     for seed in range(first, first + count):
-        sent = chance.session(seed, kind != "", kind in ("protected", "abort"), kind == "abort")
+        sent = chance.session(seed, kind != "", kind in ("protected", "abort", "requeue"), kind in ("abort", "requeue"), kind == "requeue")
         behind = int(sent[0].split()[1]) + 1
         sent[behind:behind] = [f"SEAT {seed * 4_999 % 20_000:05}"] * (seed % 3 == 0)
         sent = "".join(line + "\n" for line in sent)

@@ -53,15 +53,15 @@ class Protection:
         yield Step("proc", statement.line) if is_inside else Step("start", statement.line, None, None, protected, is_function)
         target = self.variable(statement.target, scope) if is_function else None
         formals, copies = self.passed(operation.formals, name.arguments, scope)
-        waits = Waits(delays=self.delays(statement, scope), object=protected)
+        time = self.time(statement, scope)
         if is_entry and self.is_acting(task) or not is_inside and task in protected.actions:
             raise program_error()
         self.may_enter(task)
-        call = EntryCall(task, formals, copies, protected.queues.get(operation.name), target, protected, statement.line)
+        call = EntryCall(task, formals, copies, protected.queues.get(operation.name), target, protected, statement.line, time)
         if is_inside:
             yield from self.run_body(task, Frame("procedure"), protected.bodies[operation.name], call, statement.line)
         elif is_entry:
-            yield from self.protected_entry_call(task, statement, protected, operation, call, waits)
+            yield from self.protected_entry_call(task, statement, protected, operation, call)
         else:
             protected.actions[task] = is_function
             yield from self.run_body(task, Frame("operation"), protected.bodies[operation.name], call, statement.line)
@@ -71,7 +71,7 @@ class Protection:
             raise call.exception
         return not call.is_cancelled
 
-    def protected_entry_call(self, task, statement, protected, operation, call, waits):
+    def protected_entry_call(self, task, statement, protected, operation, call):
         protected.actions[task] = False
         try:
             is_open = self.barrier(protected, operation.name)
@@ -91,10 +91,41 @@ class Protection:
         yield from self.end_action(task, protected, statement.line)
         if not call.is_over:
             task.call = call
-            yield from self.wait(task, "queued", statement.line, waits)
-        if call.is_cancelled:
-            protected.actions[task] = False
-            yield from self.end_action(task, protected, statement.line)
+            yield from self.wait(task, "queued", statement.line, call.waits())
+        yield from self.expired(task, call, statement.line)
+
+    def expired(self, task, call, line):
+        """One that was queued on an object's entry leaves it, which may make others eligible."""
+        if call.is_cancelled and call.object:
+            call.object.actions[task] = False
+            yield from self.end_action(task, call.object, line)
+
+    def start_again(self, task, call, again):
+        """A call that an accept makes again on an object."""
+        protected, entry, task.is_restarting = again.unit, again.entry.name, True
+        yield Step("start", again.line, None, None, protected)
+        task.is_restarting = False
+        if call.is_lost():
+            self.lose(call)
+            return
+        call.object, call.queue, protected.actions[task] = protected, protected.queues[entry], False
+        try:
+            is_open = self.barrier(protected, entry)
+        except AdaException:
+            self.end_call(call, program_error())
+            self.refuse_all(protected)
+            del protected.actions[task]
+            return
+        if is_open:
+            yield from self.serve(task, protected, entry, call, again.line)
+        else:
+            self.queue_again(task, call)
+        yield from self.end_action(task, protected, again.line)
+
+    def serve(self, task, protected, entry, call, line):
+        task.serving += 1
+        yield from self.run_body(task, Frame("entry"), protected.bodies[entry], call, line)
+        task.serving -= 1
 
     def end_action(self, task, protected, line, is_function=False):
         """After it has served the entries that are eligible, if it is no function's."""
@@ -105,9 +136,7 @@ class Protection:
                 call = protected.queues[entry].pop(0)
                 if call.caller is not task:
                     call.caller.status, call.caller.waits = "rendezvous", Waits()
-                task.serving += 1
-                yield from self.run_body(task, Frame("entry"), protected.bodies[entry], call, line)
-                task.serving -= 1
+                yield from self.serve(task, protected, entry, call, line)
         del protected.actions[task]
 
     def barrier(self, protected, entry):

@@ -2,12 +2,12 @@
 from tokens import Fault, Token, tokens, word
 from trees import (
     Abort, Accept, Alternative, Arrays, Assign, Attribute, Binary, Block, Body, Call, Delay, Entry, Exceptions, Exit, Formal, If, Loop,
-    Name, Null, Number, Objects, Offer, Operation, Procedure, Protected, ProtectedBody, Raise, Range, Return, Select, String, Task,
-    TaskBody, Terminate, Unary,
+    Name, Null, Number, Objects, Offer, Operation, Procedure, Protected, ProtectedBody, Raise, Range, Requeue, Return, Select, String,
+    Task, TaskBody, Terminate, Unary,
 )
 
 LEVELS = 200
-STATEMENTS = "null if abort accept delay select while for loop declare begin exit return raise".split()
+STATEMENTS = "null if abort accept delay select while for loop declare begin exit return raise requeue".split()
 
 
 class Reader:
@@ -329,6 +329,8 @@ class Reader:
             return self.duration()
         if self.has("abort"):
             return self.abort()
+        if self.has("requeue"):
+            return self.requeue()
         name = self.name()
         return Assign(name, self.expression()) if self.has(":=") else Call(name)
 
@@ -337,6 +339,12 @@ class Reader:
         while self.has(","):
             names.append(self.name())
         return Abort(names)
+
+    def requeue(self):
+        name, with_abort = self.name(), self.has("with")
+        if with_abort:
+            self.take("abort")
+        return Requeue(name, with_abort)
 
     def accept(self):
         self.take("accept")

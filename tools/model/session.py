@@ -21,7 +21,8 @@ REFUSALS = {
     34: "wrong number of arguments", 35: "not a variable", 36: "wrong name at end", 37: "no matching body",
     38: "accept or Count out of place", 39: "formals do not conform", 40: "exit without loop", 41: "return out of place",
     42: "raise without handler", 43: "bad handler choice", 44: "function call out of place", 45: "number too large",
-    46: "too many decimals", 47: "change within a function", 48: "parameter in barrier", 49: "not an entry",
+    46: "too many decimals", 47: "change within a function", 48: "parameter in barrier", 49: "not an entry", 50: "requeue out of place",
+    51: "external requeue in a protected body", 52: "target declared inside",
 }
 
 

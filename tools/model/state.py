@@ -42,6 +42,18 @@ class Returning(Exception):
         self.value = value
 
 
+class Requeueing(Returning):
+    """To the end of an accept or an entry body, which makes its call again on an entry: of which task or object it is, the entry, whether
+    the call may be cancelled there, and the line of the statement; the alternative of the task that then accepts it."""
+
+    def __init__(self, unit, entry, with_abort, line):
+        super().__init__(self)
+        self.unit, self.entry, self.with_abort, self.line, self.alternative = unit, entry, with_abort, line, None
+
+    def alternatives(self):
+        return self.unit.open_for(self.entry.name) if isinstance(self.unit, Running) else []
+
+
 def constraint_error():
     return AdaException("CONSTRAINT_ERROR")
 
@@ -114,9 +126,9 @@ class Element:
         return self.array.subtype
 
 
-def copy_back(formals, copies):
+def copy_back(copies):
     for formal, target in copies:
-        target.value = checked(target.subtype, formals[formal].value)
+        target.value = checked(target.subtype, formal.value)
 
 
 @dataclass
@@ -235,8 +247,9 @@ class Waits:
 
 @dataclass(eq=False)
 class EntryCall:
-    """Also of another operation. Its formals by their names, the variables that some are copied back to, the queue of its entry, where a
-    function's value goes, the protected object, if it is of one, and the line of its statement. It is over, or cancelled, or neither; an
+    """Also of another operation. Its formals by their names, those that are copied back with the variables that get them, the queue of its
+    entry, where a function's value goes, the protected object, if it is of one, the line of its statement, and the time at which it may
+    be cancelled, if one is said; whether it stays on its queue whatever happens to its caller. It is over, or cancelled, or neither; an
     exception may have ended it."""
 
     caller: "Running"
@@ -246,9 +259,19 @@ class EntryCall:
     target: object = None
     object: ProtectedObject = None
     line: int = None
+    time: int = None
+    stays: bool = False
     is_over: bool = False
     is_cancelled: bool = False
     exception: AdaException = None
+
+    def waits(self):
+        """What its caller waits for besides, while it is queued."""
+        return Waits(delays=[] if self.stays or self.time is None else [(None, self.time)], object=self.object)
+
+    def is_lost(self):
+        """Where it would be made again."""
+        return not self.stays and self.caller.is_abnormal
 
 
 @dataclass(eq=False)
@@ -256,7 +279,8 @@ class Running:
     """A task: its open frames, the masters that it depends on, the declarative part that created it, who waits for its activation and
     whether an activation that it waits for has failed; its steps and the next one; what it waits for where it is blocked; the calls
     queued on its entries, oldest first; its own call; how many bodies of entries it is serving; whether it is aborted, and its call of a
-    protected entry that was cancelled by this, as long as it has not withdrawn it."""
+    protected entry that was cancelled by this, as long as it has not withdrawn it; whether it stands before the start of a call that its
+    accept made again."""
 
     name: str
     status: str
@@ -275,6 +299,7 @@ class Running:
     serving: int = 0
     is_aborted: bool = False
     withdraws: EntryCall = None
+    is_restarting: bool = False
 
     def __post_init__(self):
         self.queues = {entry.name: [] for entry in self.task_type.entries}

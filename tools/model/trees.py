@@ -202,6 +202,12 @@ class Abort(Placed):
 
 
 @dataclass
+class Requeue(Placed):
+    name: Name
+    with_abort: bool
+
+
+@dataclass
 class Delay(Placed):
     """So many milliseconds, or the seconds that an expression tells."""
 

@@ -64,7 +64,7 @@ fn bodies(state: &State, alloc: Global, named: &[usize]) -> Result<Vec<usize>, A
     Ok(frames)
 }
 
-// Tasks become abnormal: their queued calls are cancelled, calls queued on their entries get Tasking_Error, and those
+// Tasks become abnormal: their queued calls are cancelled, but for those that stay, calls queued on their entries get Tasking_Error, and those
 // that are not yet activated are terminated.
 fn abort_all(
     state: &mut State,
@@ -91,7 +91,7 @@ fn mark_all(state: &mut State, hit: &[usize])
     }
 }
 
-// The calls that they have queued are cancelled.
+// The calls that they have queued are cancelled, but for those that stay.
 fn cancel_all(state: &mut State, alloc: Global, hit: &[usize]) -> Result<(), AllocError>
     ensures { OnOk result ((go : Orders Spot) → (plan : Plan) →
         (barrier : ℕ → Sight → Result Bool RaiseOf) →

@@ -14,6 +14,7 @@ use Rattle.aud_typed.specs.Tree as tree
 use Rattle.aud_scoped.specs.Declares.{StatementDeclares, PartDeclares, HandlersDeclare, BodyDeclares, DoingDeclares, OfferedDeclare, BodiesDeclare, DeclaresInParts}
 use Rattle.aud_names.specs.declared.names.Builtin.{Builtin}
 use Rattle.aud_names.specs.declared.names.Builtin.TheVariants.{Put, PutLine, NewLine}
+use Rattle.aud_names.specs.declared.names.Entry as named_entry
 use Rattle.aud_names.specs.declared.names.Meaning.{Meaning}
 use Rattle.aud_names.specs.declared.names.Meaning.TheVariants as meaning
 use Rattle.aud_names.specs.declared.array.Kind.{Kind}
@@ -32,7 +33,8 @@ use Rattle.aud_typing.specs.Expressions.{Typed, string, Entity, no_entity, entit
 use Rattle.aud_check_bodies.specs.Accepts.{TypedAccept, accept_formals, accepted}
 use Rattle.aud_check_bodies.specs.Arguments.{all_passed, reference_of}
 use Rattle.aud_check_bodies.specs.Assignments.{target_of, assigned_to, assigned_at, meaning_assigned, assigned}
-use Rattle.aud_check_bodies.specs.Calls.{EntryCalled, Whose, own_object, another, callee_meant, put_out, procedure_called, by_access, operation_called, called, called_as, typed_call, entry_called, entry_call_to, entry_call_of, selected_call}
+use Rattle.aud_check_bodies.specs.Calls.{EntryCalled, Whose, own_object, another, callee_meant, put_out, procedure_called, by_access, operation_called, called, called_as, typed_call, index_checked, entry_called, entry_call_to, entry_call_of, selected_call}
+use Rattle.aud_check_bodies.specs.Requeues.{target_callee, requeued_to, requeued, typed_requeue}
 use Rattle.aud_check_bodies.specs.Values.{FunctionCalled, function_called, returned_into, value_assigned, typed_assign}
 use Rattle.aud_check_bodies.specs.declared.within.Leaves.{Leaves}
 use Rattle.aud_check_bodies.specs.Objects.{ObjectDeclared, one_operation, declared_operations, declared_components, declared_items, hidden_items, no_parts, object_awaited, object_behind, body_object, object_tables}
@@ -136,6 +138,17 @@ in_typed_call n place t = by (callee_meant (resolved n place).denoted.meaning)
     by (Some (Procedure unit)) = in_procedure unit (name_ident n).at (all_passed (profile_of unit t) (last_args n) place)
     by (Some (callee.Operation o)) = in_operation None o (name_ident n).at (all_passed (profile_of o.unit t) (last_args n) place)
     by (Some (Entry e)) = in_entry_call (name_ident n).at tree.plainly tree.nothing tree.nothing (entry_called e n place t) tt tt
+
+in_requeued_to : (at : Pos) (e : named_entry.Entry) (with_abort : Bool) (c : Option tree.Callee) (t : Tables) → StatementDeclares false (requeued_to at e with_abort c t)
+in_requeued_to at e with_abort None t = tt
+in_requeued_to at e with_abort (Some c) t = tt
+
+in_requeue : (at : Pos) (n : plain.Name) (with_abort : Bool) (place : Place) (t : Tables) → StatementDeclares false (typed_requeue at n with_abort place t)
+in_requeue at n with_abort place t = by (resolved n place).denoted.meaning
+  where
+    by : (m : Option Meaning) → StatementDeclares false (requeued at m n with_abort place t)
+    by (Some (meaning.Entry e)) = in_requeued_to at e with_abort (target_callee e.owner (index_checked e.owner n place).typed) t
+    by _ = tt
 
 in_raised : (at : Pos) (x : Option Exception) → StatementDeclares false (raised_by at x)
 in_raised at None = tt
@@ -323,7 +336,7 @@ operation_of_good head at i fs ds b o awaited t h f g =
     let region = (shape_of head i fs here).region in
     let found = part_awaited head i o awaited in
     let kept = operation_tables head found region here t in
-    let around = operation_around head i fs here in
+    let around = operation_around head i fs o.object here in
     let x = entered_good false b (λ further t2. checked_declarations ds further t2) (λ further t2. checked_body b around further t2) (place_in region here.regions) kept f (g around) (barrier_units found (barrier_of head region here) (operation_kept found t) (kept_units found t h)) in
     unit_set _ (operation_unit found t) _ x.units x.made
 
@@ -367,11 +380,11 @@ mutual
         units = rest.units;
       }
   statement_good (abort at x xs) around place t h = record { made = tt; units = h }
-  statement_good (requeue at x with_abort) around place t h = record { made = tt; units = h }
+  statement_good (requeue at x with_abort) around place t h = record { made = in_requeue at x with_abort place t; units = h }
 
   accept_good : (x : Accept) (around : Around) (place : Place) (t : Tables) → EachUnit t.units → Good AcceptIs (checked_accept x around place t)
   accept_good (accept at i fs x) around place t h =
-      let done = doing_good x i (accept_formals fs place).region (in_accept (accepted i place) around) place t h in
+      let done = doing_good x i (accept_formals fs place).region (in_accept (accepted i place) (accept_formals fs place).profile around) place t h in
       record { made = done.made; units = done.units }
 
   doing_good : (x : Doing) (i : Ident) (r : Region) (around : Around) (place : Place) (t : Tables) → EachUnit t.units → Good DoingDeclares (checked_doing x i r around place t)

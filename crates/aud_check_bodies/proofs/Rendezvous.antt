@@ -70,7 +70,7 @@ accept_alone_left r old new t at i fs around place made h f g =
 -- one that does something
 pub accept_doing_left : (r : Result (Box memory_accept.AcceptStatement Global) AllocError) (old headed stated new : Option Fault) (t entry u : Tables) (at : Pos) (i : Ident) (fs : List m.Formal) (b : m.Body) (around within : Around) (place inner : Place) (x : TypedBody) (made : TypedAccept)
     → headed ≡ noted old (accept_faults i fs around.accepting place t)
-    → within ≡ in_accept (accepted i place) around
+    → within ≡ in_accept (accepted i place) (accept_formals fs place).profile around
     → inner ≡ place_in (accept_formals fs place).region place.regions
     → entry ≡ with_region (shown_names (accept_formals fs place).region.symbols) t
     → Is headed stated u x (checked_body b within inner entry)
@@ -82,7 +82,7 @@ accept_doing_left r old headed stated new t entry u at i fs b around within plac
     let own : Around → Place → Tables → Outcome TypedBody = λ a z v. checked_body b a z v in
     let there : Place = place_in (accept_formals fs place).region place.regions in
     let begun : Tables = with_region (shown_names (accept_formals fs place).region.symbols) t in
-    let whole : Outcome TypedBody = own (in_accept (accepted i place) around) there begun in
+    let whole : Outcome TypedBody = own (in_accept (accepted i place) (accept_formals fs place).profile around) there begun in
     let checked : Is headed stated u x whole =
     subst (λ a. Is headed stated u x (own a there begun)) w (subst (λ z. Is headed stated u x (own within z begun)) p (subst (λ v. Is headed stated u x (own within inner v)) k s)) in
     let ends : List Fault = right_name_at_end i.name (end_name b) in

@@ -17,6 +17,7 @@ pub mod Units
 pub mod Objects
 pub mod Single
 pub mod Aborts
+pub mod Requeues
 pub mod Constructs
 pub mod Bodies
 pub mod Statements

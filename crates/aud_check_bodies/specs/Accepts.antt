@@ -10,7 +10,7 @@ use Rattle.aud_names.specs.declared.names.Entry.{Entry}
 use Rattle.aud_names.specs.declared.names.Meaning.{Meaning}
 use Rattle.aud_names.specs.declared.names.Meaning.TheVariants as meaning
 use Rattle.aud_names.specs.declared.names.NamedParameter.{NamedParameter}
-use Rattle.aud_names.specs.Names.{Place, visible, next_frame, is_own}
+use Rattle.aud_names.specs.Names.{Place, visible, accept_frame, is_own}
 use Rattle.aud_names.specs.Rules.{name_not_declared, accept_or_count_in_place, conform, formals_conform}
 use Rattle.aud_names.specs.Resolution.{value_faults}
 use Rattle.aud_check_bodies.specs.Tables.{Tables, entry_profile_of}
@@ -18,7 +18,7 @@ use Rattle.aud_check_bodies.specs.Formals.{Formals, checked_formals}
 
 -- the formals of an accept have a frame of their own, in which its statements lie (RM 9.5.2)
 abbrev pub accept_formals : List Formal → Place → Formals
-accept_formals fs place = checked_formals None fs (next_frame place) place.regions
+accept_formals fs place = checked_formals None fs (accept_frame place) place.regions
 
 -- the entry that a name stands for
 abbrev pub entry_meant : Option Meaning → Option Entry

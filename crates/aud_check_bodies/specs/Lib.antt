@@ -7,6 +7,7 @@ pub mod Calls
 pub mod Values
 pub mod Delays
 pub mod Aborts
+pub mod Requeues
 pub mod Accepts
 pub mod Selects
 pub mod Labels

@@ -10,13 +10,14 @@ use Rattle.aud_fault.specs.declared.fault.Fault.{Fault}
 use Rattle.aud_names.specs.declared.rules.Base.TheVariants.{Whole}
 use Rattle.aud_names.specs.declared.awaited.AwaitedPart.{AwaitedPart}
 use Rattle.aud_names.specs.declared.names.Entry.{Entry}
+use Rattle.aud_names.specs.declared.names.NamedParameter.{NamedParameter}
 use Rattle.aud_names.specs.Names.{Region, Place, innermost, in_region, place_in, body_frame, in_frame, hiding}
 use Rattle.aud_names.specs.Objects.{awaited_parts}
 use Rattle.aud_check_bodies.specs.declared.within.Leaves.{Leaves}
 use Rattle.aud_check_bodies.specs.declared.within.Leaves.TheVariants as leaves
 use Rattle.aud_check_bodies.specs.Labels.{Labels, exit_loop}
 use Rattle.aud_names.specs.Rules.{declared_once, right_name_at_end, right_label_at_end, exit_in_loop, return_in_place}
-use Rattle.aud_check_bodies.specs.Tables.{nowhere, Tables, Outcome, fine, after, and_then, next_region, with_region, region_kept, region_named, next_unit, unit_kept, with_unit}
+use Rattle.aud_check_bodies.specs.Tables.{Tables, Outcome, fine, after, and_then, next_region, with_region, region_kept, region_named, next_unit, unit_kept, with_unit}
 use Rattle.aud_typing.specs.Expressions.{checked_simple, simple_at, wants}
 use Rattle.aud_typing.specs.Conditions.{condition_faults, condition, maybe_condition_faults, maybe_condition}
 use Rattle.aud_check_bodies.specs.Declarations.{integer_of, given_faults, given_value, Declared, leaving, checked_objects, checked_arrays, checked_exceptions, with_procedure, nothing_declared, joined_declared}
@@ -28,22 +29,24 @@ use Rattle.aud_check_bodies.specs.Regions.{loop_region, in_loop, shown_names}
 use Rattle.aud_check_bodies.specs.Values.{assign_faults, typed_assign}
 use Rattle.aud_check_bodies.specs.Calls.{call_faults, typed_call, entry_call_of, selected_call_faults, selected_call}
 use Rattle.aud_check_bodies.specs.Aborts.{abort_faults, typed_abort}
+use Rattle.aud_check_bodies.specs.Requeues.{Requeuing, requeue_faults, typed_requeue}
 use Rattle.aud_check_bodies.specs.Delays.{delay_at, delay_faults, typed_delay}
 use Rattle.aud_check_bodies.specs.Accepts.{accept_formals, accept_faults, accepted, number_of, with_accepted, TypedAccept}
 use Rattle.aud_check_bodies.specs.Selects.{TypedAlternative, accepts, delays, terminates, alternatives_of, form_faults, form_of}
 use Rattle.aud_check_bodies.specs.Handlers.{raise_faults, typed_raise, none_chosen, all_choices_faults, choices_of, is_others}
 
 -- what a statement knows of the constructs around it in its body: loops and blocks, whether a handler is among them, what a return would
--- leave, and the entries of the accepts
+-- leave, the entries of the accepts, and the accept or entry body whose call a requeue makes again
 pub record Around : Type 0 where
   pub labels : Labels
   pub in_handler : Bool
   pub leaves : Leaves
   pub accepting : List ℕ
+  pub requeuing : Option Requeuing
 
 -- nothing is around the statements of a body: labels and handlers end at its border (RM 5.7(4), 11.3(3))
 abbrev pub leaving_body : Leaves → Around
-leaving_body l = record { labels = []; in_handler = false; leaves = l; accepting = [] }
+leaving_body l = record { labels = []; in_handler = false; leaves = l; accepting = []; requeuing = None }
 
 abbrev pub nothing_around : Around
 nothing_around = leaving_body leaves.Procedure
@@ -57,9 +60,20 @@ labelled is_loop label around = record around { labels = (record { is_loop = is_
 abbrev pub handling : Around → Around
 handling around = record around { in_handler = true }
 
--- within an accept of an entry: no exit leaves it (RM 5.7(4)), and a return leaves no more than it (RM 6.5(4))
-abbrev pub in_accept : Option Entry → Around → Around
-in_accept e around = record { labels = []; in_handler = around.in_handler; leaves = leaves.Procedure; accepting = with_accepted e around.accepting }
+-- in an entry body with these formals, of an object of this number
+abbrev pub in_entry : Head → List NamedParameter → ℕ → Option Requeuing
+in_entry (of_entry barrier) profile number = Some (record { profile = profile; object = Some number })
+in_entry _ profile number = None
+
+-- within an accept of an entry with these formals: no exit leaves it (RM 5.7(4)), and a return leaves no more than it (RM 6.5(4))
+abbrev pub in_accept : Option Entry → List NamedParameter → Around → Around
+in_accept e profile around = record {
+  labels = [];
+  in_handler = around.in_handler;
+  leaves = leaves.Procedure;
+  accepting = with_accepted e around.accepting;
+  requeuing = Some (record { profile = profile; object = None });
+}
 
 -- Loops.
 
@@ -202,8 +216,9 @@ unit_of is_function at name last place region o =
     and_then o (λ b t. after (right_name_at_end name last) (fine (record { level = (innermost place).level; region = region; is_function = is_function; at = at; body = b }) t))
 
 -- what is around the statements of an operation's body, which stands at a place in its object's
-abbrev pub operation_around : Head → Ident → List Formal → Place → Around
-operation_around head i fs here = leaving_body (head_leaves head (shape_of head i fs here).returned)
+abbrev pub operation_around : Head → Ident → List Formal → ℕ → Place → Around
+operation_around head i fs number here =
+    record (leaving_body (head_leaves head (shape_of head i fs here).returned)) { requeuing = in_entry head (shape_of head i fs here).profile number }
 
 -- the place behind the name of a procedure, which is visible in its own body (RM 8.3)
 abbrev pub procedure_place : Ident → Place → Tables → Place
@@ -252,13 +267,13 @@ abbrev mutual
       after (form_faults otherwise place ++ selected_call_faults n place t) (and_then (checked_others behind around place t) (λ xs t1. and_then (checked_otherwise otherwise around place t1) (λ rest t2.
       fine (entry_call_of at (form_of otherwise place) (tree.part_of xs) (tree.part_of rest) (selected_call n place t)) t2)))
   checked_statement (abort at x xs) around place t = after (abort_faults x xs place) (fine (typed_abort at x xs place) t)
-  -- no program has these yet
-  checked_statement (requeue at x with_abort) around place t = fine (tree.null nowhere) t
+  checked_statement (requeue at x with_abort) around place t =
+      after (requeue_faults at x around.requeuing place t) (fine (typed_requeue at x with_abort place t) t)
 
   -- RM 9.5.2
   pub checked_accept : Accept → Around → Place → Tables → Outcome TypedAccept
   checked_accept (accept at i fs doing) around place t =
-      after (accept_faults i fs around.accepting place t) (and_then (checked_doing doing i (accept_formals fs place).region (in_accept (accepted i place) around) place t) (λ x t1.
+      after (accept_faults i fs around.accepting place t) (and_then (checked_doing doing i (accept_formals fs place).region (in_accept (accepted i place) (accept_formals fs place).profile around) place t) (λ x t1.
       fine (record { at = at; entry = number_of (accepted i place); doing = x }) t1))
 
   -- in the region of an accept's formals; the name after its end must be the entry's
@@ -344,13 +359,13 @@ abbrev mutual
   pub checked_operation : OperationBody → BodyPlaces → List AwaitedPart → Tables → Outcome (List AwaitedPart)
   checked_operation (entry_body at i fs barrier ds b) o awaited t =
       operation_of (of_entry barrier) i fs (λ inner t1.
-      unit_of false at i.name (end_name b) inner (next_region t1) (entered false b (λ further t2. checked_declarations ds further t2) (λ further t2. checked_body b (operation_around (of_entry barrier) i fs o.inside) further t2) inner t1)) o awaited t
+      unit_of false at i.name (end_name b) inner (next_region t1) (entered false b (λ further t2. checked_declarations ds further t2) (λ further t2. checked_body b (operation_around (of_entry barrier) i fs o.object o.inside) further t2) inner t1)) o awaited t
   checked_operation (procedure_body at i fs ds b) o awaited t =
       operation_of of_procedure i fs (λ inner t1.
-      unit_of false at i.name (end_name b) inner (next_region t1) (entered false b (λ further t2. checked_declarations ds further t2) (λ further t2. checked_body b (operation_around of_procedure i fs o.inside) further t2) inner t1)) o awaited t
+      unit_of false at i.name (end_name b) inner (next_region t1) (entered false b (λ further t2. checked_declarations ds further t2) (λ further t2. checked_body b (operation_around of_procedure i fs o.object o.inside) further t2) inner t1)) o awaited t
   checked_operation (function_body at i fs mark ds b) o awaited t =
       operation_of (of_function mark) i fs (λ inner t1.
-      unit_of true at i.name (end_name b) inner (next_region t1) (entered false b (λ further t2. checked_declarations ds further t2) (λ further t2. checked_body b (operation_around (of_function mark) i fs o.in_function) further t2) inner t1)) o awaited t
+      unit_of true at i.name (end_name b) inner (next_region t1) (entered false b (λ further t2. checked_declarations ds further t2) (λ further t2. checked_body b (operation_around (of_function mark) i fs o.object o.in_function) further t2) inner t1)) o awaited t
 
 -- The same of a loop behind the check of its label.
 
@@ -375,9 +390,9 @@ abbrev pub checked_unit : Bool → Pos → List ℕ → Declarations → Body �
 checked_unit of_task at name ds b place t = unit_of false at name (end_name b) place (next_region t) (entered_body of_task ds b (around_unit of_task) place t)
 
 -- and of the body of an operation or entry, at a place in its object's
-abbrev pub checked_operation_unit : Head → Pos → Ident → List Formal → Declarations → Body → Place → Place → Tables → Outcome tree.UnitBody
-checked_operation_unit head at i fs ds b here place t =
-    unit_of (is_function_head head) at i.name (end_name b) place (next_region t) (entered_body false ds b (operation_around head i fs here) place t)
+abbrev pub checked_operation_unit : Head → Pos → Ident → List Formal → Declarations → Body → ℕ → Place → Place → Tables → Outcome tree.UnitBody
+checked_operation_unit head at i fs ds b number here place t =
+    unit_of (is_function_head head) at i.name (end_name b) place (next_region t) (entered_body false ds b (operation_around head i fs number here) place t)
 
 abbrev pub checked_operation_of : Head → Pos → Ident → List Formal → Declarations → Body → BodyPlaces → List AwaitedPart → Tables → Outcome (List AwaitedPart)
-checked_operation_of head at i fs ds b o awaited t = operation_of head i fs (λ inner t1. checked_operation_unit head at i fs ds b (operation_place head o) inner t1) o awaited t
+checked_operation_of head at i fs ds b o awaited t = operation_of head i fs (λ inner t1. checked_operation_unit head at i fs ds b o.object (operation_place head o) inner t1) o awaited t

@@ -18,10 +18,11 @@ use aud_syntax::tree::{Formal, Ident};
 use aud_text::place::Pos;
 use std::alloc::Global;
 
-/// The head of an accept: the region of its formals, and the entry that is accepted, if it is one.
+/// The head of an accept: its formals, with their region, and the entry that is accepted, if it is one.
 #[derive(Drop)]
 pub struct Head {
     pub region: Region,
+    pub profile: Vec<NamedParameter>,
     pub entry: Option<Entry>,
 }
 
@@ -94,18 +95,24 @@ pub fn accept_head(
 ) -> Made<Head>
     ensures region { IfOk result (λ head. plain_region head.region
         ≡ (accept_formals (map plain_formal source.now) scope.now).region) }
+    ensures profile { IfOk result (λ head. head.profile.items
+        ≡ (accept_formals (map plain_formal source.now) scope.now).profile) }
     ensures entry { IfOk result (λ head. head.entry ≡ accepted name.now scope.now) }
     ensures noted { OnOk result (faults.new ≡ noted faults.old
         (accept_faults name.now (map plain_formal source.now) within.now scope.now
         (plain_tables tables.now))) }
 {
     let regions = scope.regions()?;
-    let mut region = scope.frame()?;
-    let given = formals(None, source, &regions, &mut region, faults)?;
+    let mut region = scope.accept_frame()?;
+    let profile = formals(None, source, &regions, &mut region, faults)?;
     let meaning = scope.visible(&name.name);
-    check_accepted(meaning, name.at, &given, within, scope, tables, faults);
+    check_accepted(meaning, name.at, &profile, within, scope, tables, faults);
     let entry = entry_meant(meaning);
-    Ok(Head { region, entry })
+    Ok(Head {
+        region,
+        profile,
+        entry,
+    })
 }
 
 /// The number of the entry that is accepted.

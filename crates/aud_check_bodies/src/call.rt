@@ -56,7 +56,8 @@ fn one_text(args: &[Expression], at: Pos, last: &Typed, faults: &mut Least)
     wants(Base::Text, expression_at(&args[0]), last, faults);
 }
 
-fn no_argument(args: &[Expression], at: Pos, faults: &mut Least)
+/// Notes where there are arguments.
+pub fn no_argument(args: &[Expression], at: Pos, faults: &mut Least)
     ensures { faults.new ≡ noted faults.old (no_argument (plain_expressions args.now) at) }
 {
     if !are_none(args) {
@@ -75,8 +76,8 @@ fn element_called(index: &Expression, at: Pos, last: &Typed, faults: &mut Least)
     }
 }
 
-// Notes that an array is not called, nor an element, or the fault of its index.
-fn array_called(args: &[Expression], at: Pos, last: &Typed, faults: &mut Least)
+/// Notes that an array is not called, nor an element, or the fault of its index.
+pub fn array_called(args: &[Expression], at: Pos, last: &Typed, faults: &mut Least)
     ensures { faults.new ≡ noted faults.old
         (array_called (plain_expressions args.now) at (plain_typed last.now)) }
 {

@@ -41,8 +41,8 @@ pub struct EntryCalled {
     pub arguments: Vec<Argument>,
 }
 
-// The index of the array of tasks before the point behind which an entry of one of them stands.
-fn index(owner: Owner, name: &Name, scope: &Scope<'_>, faults: &mut Least) -> Left<Typed>
+/// The index of the array of tasks before the point behind which an entry of one of them stands.
+pub fn index(owner: Owner, name: &Name, scope: &Scope<'_>, faults: &mut Least) -> Left<Typed>
     ensures { Leaves (in_box plain_typed) result faults.old faults.new
         (index_checked owner (plain_name name.now) scope.now).faults
         (index_checked owner (plain_name name.now) scope.now).typed }

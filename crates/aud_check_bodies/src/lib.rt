@@ -19,6 +19,7 @@ mod leaving;
 mod made;
 mod object;
 mod operation;
+mod requeue;
 mod select;
 mod statement;
 mod tables;

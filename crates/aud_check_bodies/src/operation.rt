@@ -1,20 +1,23 @@
 // The bodies of a protected object's operations and entries: what is checked before their declarations.
 
-ghost use Rattle.std.specs.Prelude.{◌≡◌, ◌++◌, ◌∷◌, map, is_some, if◌then◌else◌, IfOk, OnOk};
+ghost use Rattle.std.specs.Prelude.{◌≡◌, ◌++◌, ◌∷◌, List, map, is_some, if◌then◌else◌, IfOk, OnOk};
 ghost use Rattle.std.specs.Option.{option_copied};
 ghost use Rattle.aud_syntax.specs.Ties.View.{plain_formal};
 ghost use Rattle.aud_fault.specs.Least.{noted};
 ghost use Rattle.aud_names.specs.declared.names.Access.TheVariants as access;
+ghost use Rattle.aud_names.specs.declared.names.NamedParameter.{NamedParameter};
 ghost use Rattle.aud_names.specs.Objects.{part_in, object_place, first_with, is_unit};
 ghost use Rattle.aud_names.specs.Ties.Regions.{plain_region, plain_regions, plain_place};
 ghost use Rattle.aud_typing.specs.Ties.Typing.{Leaves as Shown};
 ghost use Rattle.aud_check_bodies.specs.Operations.{is_function_head, hidden_own, head_result, result_faults, head_leaves, shape_of, shape_faults, same_kind, part_unit, if_awaited, still_awaited, part_profile, same_result, operation_matched, operation_unit, operation_kept, barrier_faults, barrier_of, barrier_kept, operation_tables};
 ghost use Rattle.aud_check_bodies.specs.Ties.Objects.{same_subtype, plain_head, plain_shape, plain_barrier, body_place};
+ghost use Rattle.aud_check_bodies.specs.Statements.{in_entry};
 ghost use Rattle.aud_check_bodies.specs.Ties.Tables.{plain_tables};
+ghost use Rattle.aud_check_bodies.specs.Ties.Within.{plain_requeuing};
 
 use crate::formal::{formals, result_mark};
 use crate::tables::Tables;
-use crate::within::{Leaves, regions_within};
+use crate::within::{Leaves, Requeuing, regions_within};
 use aud_fault::fault::Least;
 use aud_names::awaited::{AwaitedPart, index_of_unit};
 use aud_names::behind::{Made, both};
@@ -157,6 +160,17 @@ pub fn head_leaves(kind: &OperationKind, returned: Option<Subtype>) -> Leaves
     match kind {
         OperationKind::Function(_) => Leaves::Function(returned),
         OperationKind::Entry(_) | OperationKind::Procedure => Leaves::Procedure,
+    }
+}
+
+/// Which call a requeue makes again in a body of an object of this number (RM 9.5.4).
+pub fn in_entry(kind: &OperationKind, number: usize) -> Requeuing
+    ensures { (profile : List NamedParameter) →
+        plain_requeuing result profile ≡ in_entry (plain_head kind.now) profile number }
+{
+    match kind {
+        OperationKind::Entry(_) => Requeuing::Entry(number),
+        OperationKind::Procedure | OperationKind::Function(_) => Requeuing::Nowhere,
     }
 }
 

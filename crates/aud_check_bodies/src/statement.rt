@@ -67,10 +67,12 @@ use crate::operation::Shape;
 use crate::operation::around_bodies;
 use crate::operation::body_shape;
 use crate::operation::head_leaves;
+use crate::operation::in_entry;
 use crate::operation::is_function;
 use crate::operation::matched;
 use crate::operation::object_bodies;
 use crate::operation::place_of;
+use crate::requeue::requeue;
 use crate::select::accepting;
 use crate::select::call_head;
 use crate::select::delaying;
@@ -86,6 +88,7 @@ use crate::task::without_bodies;
 use crate::value::assignment;
 use crate::within::Entering;
 use crate::within::Leaves;
+use crate::within::Requeuing;
 use crate::within::Within;
 use crate::within::regions_within;
 use aud_fault::fault::Least;
@@ -169,6 +172,18 @@ fn statement<'a>(
         Statement::Select(node) => select(node, within, tables, faults),
         Statement::SelectCall(node) => selected_call(node, within, tables, faults),
         Statement::Abort(source) => abort(source, scope, faults),
+        Statement::Requeue(at, target, with_abort) => {
+            requeue(
+                *at,
+                target,
+                *with_abort,
+                within.requeuing,
+                within.profile,
+                scope,
+                &*tables,
+                faults,
+            )
+        }
     }
 }
 
@@ -289,6 +304,8 @@ fn for_loop<'a>(
         in_handler: within.in_handler,
         leaves: within.leaves,
         accepting: within.accepting,
+        requeuing: within.requeuing,
+        profile: within.profile,
     };
     let body = loop_body(node, inner, tables, faults);
     drop(among);
@@ -329,6 +346,8 @@ fn loop_body<'a>(
         in_handler: within.in_handler,
         leaves: within.leaves,
         accepting: within.accepting,
+        requeuing: within.requeuing,
+        profile: within.profile,
     };
     statements(&node.statements, inner, tables, faults)
 }
@@ -365,6 +384,8 @@ fn accept<'a>(
         in_handler: within.in_handler,
         leaves: Leaves::Procedure,
         accepting: &accepting,
+        requeuing: Requeuing::Accept,
+        profile: &head.profile,
     };
     let parts = body(source, inner, tables, faults);
     drop(among);
@@ -519,6 +540,8 @@ fn block_statement<'a>(
         in_handler: within.in_handler,
         leaves: within.leaves,
         accepting: within.accepting,
+        requeuing: within.requeuing,
+        profile: within.profile,
         of_task: false,
     };
     let number = tables.next_region();
@@ -591,6 +614,8 @@ pub fn body_behind<'a>(
         in_handler: entering.in_handler,
         leaves: entering.leaves,
         accepting: entering.accepting,
+        requeuing: entering.requeuing,
+        profile: entering.profile,
     };
     let parts = body(node, within, tables, faults);
     drop(scope);
@@ -649,6 +674,8 @@ fn procedure<'a>(
         in_handler: false,
         leaves: Leaves::Procedure,
         accepting: &[],
+        requeuing: Requeuing::Nowhere,
+        profile: &[],
         of_task: false,
     };
     let body = body_behind(inner, &node.body, entering, tables, faults);
@@ -708,6 +735,8 @@ fn task_body<'a>(
         in_handler: false,
         leaves: Leaves::Task,
         accepting: &[],
+        requeuing: Requeuing::Nowhere,
+        profile: &[],
         of_task: true,
     };
     let body = body_behind(inner, &node.body, entering, tables, faults);
@@ -778,7 +807,6 @@ fn operation_body<'a>(
         profile,
         returned,
     } = shape;
-    drop(profile);
     let regions = regions_within(own, outer)?;
     let level = region.level;
     let own_region = tables.next_region();
@@ -789,9 +817,12 @@ fn operation_body<'a>(
         in_handler: false,
         leaves: head_leaves(kind, returned),
         accepting: &[],
+        requeuing: in_entry(kind, declared_parts.object),
+        profile: &profile,
         of_task: false,
     };
     let body = body_behind(inner, &node.body, entering, tables, faults);
+    drop(profile);
     drop(regions);
     let body = body?;
     right_name_at_end(&ident.name, &node.body.name, faults);
@@ -923,6 +954,8 @@ fn body<'a>(
         in_handler: true,
         leaves: within.leaves,
         accepting: within.accepting,
+        requeuing: within.requeuing,
+        profile: within.profile,
     };
     let handlers = handlers(&node.handlers, inner, tables, faults);
     both(statements, handlers)

@@ -13,7 +13,7 @@ ghost use Rattle.aud_typing.specs.Ties.Typing.{Leaves as Shown};
 use crate::made::unit_of;
 use crate::statement::{body_behind, declared};
 use crate::tables::Tables;
-use crate::within::{Entering, Leaves};
+use crate::within::{Entering, Leaves, Requeuing};
 use aud_fault::fault::Least;
 use aud_names::behind::{Made, both};
 use aud_names::names::{Region, regions_of_library};
@@ -48,6 +48,8 @@ fn fill<'a>(
         in_handler: false,
         leaves: Leaves::Procedure,
         accepting: &[],
+        requeuing: Requeuing::Nowhere,
+        profile: &[],
         of_task: false,
     };
     let body = body_behind(part, &node.body, entering, tables, faults)?;

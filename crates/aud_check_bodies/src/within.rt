@@ -5,7 +5,7 @@ ghost use Rattle.aud_names.specs.Ties.Regions.{plain_regions, plain_place};
 
 use crate::labels::Label;
 use aud_names::behind::Made;
-use aud_names::names::{Region, Scope};
+use aud_names::names::{NamedParameter, Region, Scope};
 use aud_typed::program::Subtype;
 
 /// What a return would leave (RM 6.5).
@@ -19,8 +19,18 @@ pub enum Leaves {
     Function(Option<Subtype>),
 }
 
+/// Which call a requeue makes again (RM 9.5.4): that of the innermost accept, or that of an entry body of the object of this
+/// number, if it stands in one.
+#[derive(Clone, Copy)]
+pub enum Requeuing {
+    Nowhere,
+    Accept,
+    Entry(usize),
+}
+
 /// What is visible to a statement, the labels of the loops and blocks around it, the innermost one's first,
-/// whether a handler is around it, what a return would leave, and the entries of the accepts around it.
+/// whether a handler is around it, what a return would leave, the entries of the accepts around it, which call a requeue makes
+/// again, and the formals of that accept or entry body.
 #[derive(Clone, Copy)]
 pub struct Within<'s, 'a> {
     pub scope: &'s Scope<'a>,
@@ -28,11 +38,13 @@ pub struct Within<'s, 'a> {
     pub in_handler: bool,
     pub leaves: Leaves,
     pub accepting: &'s [usize],
+    pub requeuing: Requeuing,
+    pub profile: &'s [NamedParameter],
 }
 
 /// Where a body stands whose region is entered: in these regions, the next one first, with these labels around its
-/// statements, maybe in a handler, what a return would leave, in accepts of these entries; and whether it is itself the body of
-/// a task.
+/// statements, maybe in a handler, what a return would leave, in accepts of these entries, which call a requeue makes
+/// again, with what formals; and whether it is itself the body of a task.
 #[derive(Clone, Copy)]
 pub struct Entering<'s, 'a> {
     pub outer: &'s [&'a Region],
@@ -40,6 +52,8 @@ pub struct Entering<'s, 'a> {
     pub in_handler: bool,
     pub leaves: Leaves,
     pub accepting: &'s [usize],
+    pub requeuing: Requeuing,
+    pub profile: &'s [NamedParameter],
     pub of_task: bool,
 }
 

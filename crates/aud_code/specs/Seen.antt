@@ -5,7 +5,7 @@ use Rattle.std.specs.Prelude.{◌≡◌, ◌⊎◌, ◌<◌, ◌≤◌, ℕ, zer
 use Rattle.aud_typed.specs.declared.program.ArrayAt.{ArrayAt}
 use Rattle.aud_meaning.specs.declared.state.Construct.TheVariants as construct
 use Rattle.aud_code.specs.Places.{Way, Guard}
-use Rattle.aud_code.specs.Instruction.{Instruction, Load, LoadElement, Count, Find, FindElement, Ending, DeclareTasks, Loop, Block, Proc, Operation, CallObject}
+use Rattle.aud_code.specs.Instruction.{Instruction, Load, LoadElement, Count, Find, FindElement, Ending, DeclareTasks, Loop, Block, Proc, Operation, CallObject, RequeueObject}
 use Rattle.aud_code.specs.Flat.{Last, Does, Continues, Guards, Ends, Leaves, EndLine, FlatLine, instructs, end, Flat, start_at}
 use Rattle.aud_code.specs.Frames.{opener, Found}
 use Rattle.aud_code.specs.Sound.{Counts}
@@ -97,6 +97,7 @@ module _ (code : Flat) (tasks barriers seen : List ℕ) where
   -- an operation's body sees some of them, that of its object, and its own
   EndingSees (Operation v unit) n = (v.level < n) × BodySees seen (suc n) (start_at code unit)
   EndingSees (CallObject v entry form) n = (v.level < n) × BarrierSees barriers n entry
+  EndingSees (RequeueObject v entry formals abort) n = (v.level < n) × BarrierSees barriers n entry
   EndingSees e n = Unit {0}
 
   -- behind the end of a construct its frame is left; what is around it stands within the step that opened it

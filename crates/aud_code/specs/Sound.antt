@@ -1,7 +1,7 @@
 -- Instructions that never miss an operand: the counts of operands are followed along all ways, as the evaluation would go.
 use Rattle.std.specs.Prelude.{◌≡◌, ℕ, zero, suc, List, [], ◌∷◌, length, Bool, true, false, Option, Some, None, slice_get}
 use Rattle.aud_code.specs.Places.{Way, Guard}
-use Rattle.aud_code.specs.Instruction.{Instruction, Push, Load, LoadElement, OnOne, OnTwo, Count, Check, Cell, PushTruth, Truth, Negate, Relate, Compare, Combine, PassIfFalse, PassIfTrue, IsCallable, IsTerminated, Find, FindElement, LoadFound, Pass, PassCopy, AppendText, AppendImage, AppendTruth, AppendNewLine, Name, Milliseconds, Seconds, BeginObject, Component, OpensAccept, OpensDelay, OpensTerminate, Mark, PassUnlessNext, SetTime, Ending, Declare, DeclareObject, Activate, Assign, If, While, Loop, Exit, ReturnValue, CallTask, Operands, Ended, Reached, Marked, Raised, Lost}
+use Rattle.aud_code.specs.Instruction.{Instruction, Push, Load, LoadElement, OnOne, OnTwo, Count, Check, Cell, PushTruth, Truth, Negate, Relate, Compare, Combine, PassIfFalse, PassIfTrue, IsCallable, IsTerminated, Find, FindElement, LoadFound, Pass, PassCopy, AppendText, AppendImage, AppendTruth, AppendNewLine, Name, Milliseconds, Seconds, BeginObject, Component, OpensAccept, OpensDelay, OpensTerminate, Mark, PassUnlessNext, SetTime, Ending, Declare, DeclareObject, Activate, Assign, If, While, Loop, Exit, ReturnValue, CallTask, RequeueTask, Operands, Ended, Reached, Marked, Raised, Lost}
 use Rattle.aud_code.specs.Flat.{Last, Does, Continues, Guards, Ends, Leaves, EndLine, FlatLine, end, Flat, instructions_at, instructions_from, end_at, end_from}
 use Rattle.aud_code.specs.Frames.{found, Found, At, EachAt, StepFits}
 
@@ -95,6 +95,7 @@ EndingFine (Loop f) c = Takes c.integers (λ n. Takes n (λ m. Unit {0}))
 EndingFine Exit c = Takes c.booleans (λ n. Unit {0})
 EndingFine ReturnValue c = Takes c.integers (λ n. Unit {0})
 EndingFine (CallTask entry form) c = Takes c.names (λ n. Unit {0})
+EndingFine (RequeueTask entry formals abort) c = Takes c.names (λ n. Unit {0})
 EndingFine e c = Unit {0}
 
 abbrev pub LastFine : Last → Counts → Type 0

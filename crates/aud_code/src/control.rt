@@ -116,7 +116,9 @@ fn body_of(among: &Among, alternative: usize) -> Option<usize>
         | Among::CallObject { .. }
         | Among::Operation { .. }
         | Among::Delay
-        | Among::Abort => None,
+        | Among::Abort
+        | Among::RequeueTask { .. }
+        | Among::RequeueObject { .. } => None,
     }
 }
 
@@ -136,7 +138,9 @@ fn beside(among: &Among, part: usize) -> Option<usize>
         | Among::Operation { .. }
         | Among::Delay
         | Among::Accept { .. }
-        | Among::Abort => None,
+        | Among::Abort
+        | Among::RequeueTask { .. }
+        | Among::RequeueObject { .. } => None,
     }
 }
 

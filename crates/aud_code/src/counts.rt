@@ -223,7 +223,7 @@ fn need_of_among(among: &Among) -> Counts
     ensures { Needs (EndingFine (plain_among among.now)) result }
 {
     match among {
-        Among::Call { .. } => NAME,
+        Among::Call { .. } | Among::RequeueTask { .. } => NAME,
         Among::DeclareObject(_) => CELLS,
         Among::DeclareTasks(_)
         | Among::Activate
@@ -233,7 +233,8 @@ fn need_of_among(among: &Among) -> Counts
         | Among::Delay
         | Among::Accept { .. }
         | Among::Select { .. }
-        | Among::Abort => NOTHING,
+        | Among::Abort
+        | Among::RequeueObject { .. } => NOTHING,
     }
 }
 

@@ -1,6 +1,6 @@
 // The frames that are open where steps stand.
 
-ghost use Rattle.std.specs.Prelude.{◌≡◌, ◌↔◌, ◌⊎◌, List, [], ◌∷◌, map, None, Some};
+ghost use Rattle.std.specs.Prelude.{◌≡◌, ◌↔◌, ◌⊎◌, [], ◌∷◌, map, None, Some};
 ghost use Rattle.std.specs.Prelude.{IfNone, IfSome, IsTrue};
 ghost use Rattle.aud_code.specs.Frames.{found, frame_inside, opener, AcceptAround, At, Behind, BlockAround};
 ghost use Rattle.aud_code.specs.Frames.{BodiesAt, OpensAccept};
@@ -9,7 +9,7 @@ ghost use Rattle.aud_code.specs.Frames.{Found, OpensBlock, OpensLoop, OutFits, O
 ghost use Rattle.aud_code.specs.Frames.{StepFits, TakesExceptions, WayFits, WaysAt};
 ghost use Rattle.aud_code.specs.View.{behind_offers, beside, bodies_in, bodies_offered};
 ghost use Rattle.aud_code.specs.View.{inside_of, plain_end, plain_ending, plain_guard, plain_last};
-ghost use Rattle.aud_code.specs.View.{plain_line, way_of};
+ghost use Rattle.aud_code.specs.View.{plain_line, way_beside, way_of};
 
 use crate::line::{Among, EndLine, Ending, Guard, Last, Line, Offer};
 use aud_meaning::state::Construct;
@@ -105,10 +105,11 @@ fn ending_fits(lines: &[Line], place: usize, within: Option<usize>, ending: Endi
     }
 }
 
-// Where a step leads besides that concerns others, and to what its accepts do.
+// Where a step leads besides that concerns others, or out of loops, and to what its accepts do.
 fn among_fits(lines: &[Line], place: usize, within: Option<usize>, among: &Among) -> bool
     ensures { IsTrue result ↔ (EachAt (map plain_line lines.now) (beside among.now) within
-        × BodiesAt (map plain_line lines.now) within place (bodies_in among.now)) }
+        × (BodiesAt (map plain_line lines.now) within place (bodies_in among.now)
+        × WayFits (map plain_line lines.now) within (way_beside among.now))) }
 {
     match among {
         Among::Call { otherwise, .. } | Among::CallObject { otherwise, .. } => {
@@ -117,6 +118,9 @@ fn among_fits(lines: &[Line], place: usize, within: Option<usize>, among: &Among
         Among::Accept { body, .. } => body_fits(lines, place, within, *body),
         Among::Select { own, offers, .. } => {
             body_fits(lines, place, within, *own) && offers_fit(lines, place, within, offers)
+        }
+        Among::RequeueTask { way, .. } | Among::RequeueObject { way, .. } => {
+            leaves_loops(lines, within, way.loops, way.to)
         }
         Among::DeclareTasks(_)
         | Among::DeclareObject(_)

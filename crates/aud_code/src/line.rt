@@ -85,7 +85,16 @@ pub struct Offer {
     pub body: usize,
 }
 
-/// What a statement's step does that concerns other tasks or the clock.
+/// The entry at which a call is made again, whether it has formals, and whether the call can be cancelled there as before
+/// (RM 9.5.4).
+#[derive(Clone, Copy)]
+pub struct EntryAgain {
+    pub entry: usize,
+    pub with_formals: bool,
+    pub with_abort: bool,
+}
+
+/// What a statement's step does that concerns other tasks, the clock, or the end of the accept or entry body around it.
 #[derive(Drop)]
 pub enum Among {
     /// The next variable of the innermost frame is these tasks, which are created (RM 9.1).
@@ -134,6 +143,18 @@ pub enum Among {
     },
     /// The tasks that are named, and those that depend on them, become abnormal (RM 9.8).
     Abort,
+    /// The step leads out of an accept or entry body, to its end, which makes its call again on an entry of the task that is named
+    /// (RM 9.5.4).
+    RequeueTask {
+        again: EntryAgain,
+        way: Way,
+    },
+    /// The same on an entry of the object whose number the variable's cell holds.
+    RequeueObject {
+        object: Variable,
+        again: EntryAgain,
+        way: Way,
+    },
 }
 
 /// How a step ends.

@@ -9,7 +9,7 @@ ghost use Rattle.aud_code.specs.Seen.{GuardsSee, IsSeen, IsWritten, LastSees, Li
 ghost use Rattle.aud_code.specs.Seen.{OutSees, PlaceSees, WaySees, WithinSees};
 ghost use Rattle.aud_code.specs.Seen.{open_with, with_own};
 ghost use Rattle.aud_code.specs.View.{behind_offers, beside, bodies_in, bodies_offered, frames_in, inside_of, plain_among, plain_barrier, plain_code, plain_end, plain_ending, plain_guard};
-ghost use Rattle.aud_code.specs.View.{plain_instruction, plain_last, plain_line, way_of};
+ghost use Rattle.aud_code.specs.View.{plain_instruction, plain_last, plain_line, way_beside, way_of};
 
 use crate::frames::opener;
 use crate::instruction::Instruction;
@@ -200,7 +200,8 @@ fn among_sees(code: &Code, among: &Among, frames: usize) -> bool
         code.now.tasks.items (frames_in code.now.barriers.items) code.now.seen.items
         (plain_among among.now) frames
         × (EachSame code.now.seen.items (inside (plain_among among.now) frames) (beside among.now)
-        × BodiesSee code.now.seen.items frames (bodies_in among.now))) }
+        × (BodiesSee code.now.seen.items frames (bodies_in among.now)
+        × WaySees code.now.seen.items frames (way_beside among.now)))) }
 {
     let seen = &code.seen;
     match among {
@@ -224,6 +225,12 @@ fn among_sees(code: &Code, among: &Among, frames: usize) -> bool
         Among::Accept { body, .. } => doing_sees(seen, frames, *body),
         Among::Select { own, offers, .. } => {
             doing_sees(seen, frames, *own) && offers_see(seen, frames, offers)
+        }
+        Among::RequeueTask { way, .. } => is_fewer(seen, way.loops, frames, way.to),
+        Among::RequeueObject { object, again, way } => {
+            object.level < frames
+                && barrier_sees(&code.barriers, frames, again.entry)
+                && is_fewer(seen, way.loops, frames, way.to)
         }
         Among::DeclareObject(_)
         | Among::Activate

@@ -61,5 +61,6 @@ pub(crate) fn step_word(kind: StepKind) -> &'static [u8]
         StepKind::Close => b"close",
         StepKind::Handler => b"handler",
         StepKind::Withdraw => b"withdraw",
+        StepKind::Requeue => b"requeue",
     }
 }

@@ -1,7 +1,7 @@
 -- In a program in memory, declarative parts alone activate tasks.
 use Rattle.std.proofs.Common.{List, [], ◌∷◌, ◌++◌, map, Bool, true, false, refl}
 use Rattle.aud_text.specs.declared.place.Pos.{Pos}
-use Rattle.aud_typed.specs.declared.program.Statement.{Statement, Declare, DeclareArray, DeclareTasks, DeclareObject, Activated, Null, Assign, Put, If', While', Loop', For', Exit, Raise, RaiseAgain, Block', Return, ReturnValue, ProcedureCall, OwnEntryCall, OperationCall, EntryCall', Delay, Accept', Select', Abort, Row_of-Statement, end_of-Statement, more_of-Statement}
+use Rattle.aud_typed.specs.declared.program.Statement.{Statement, Declare, DeclareArray, DeclareTasks, DeclareObject, Activated, Null, Assign, Put, If', While', Loop', For', Exit, Raise, RaiseAgain, Block', Return, ReturnValue, ProcedureCall, OwnEntryCall, OperationCall, EntryCall', Delay, Accept', Select', Abort, Requeue, Row_of-Statement, end_of-Statement, more_of-Statement}
 use Rattle.aud_typed.specs.declared.program.IfStatement.{IfStatement, IfStatement', Row_of-Arm, end_of-Arm, more_of-Arm}
 use Rattle.aud_typed.specs.declared.program.BlockStatement.{BlockStatement, BlockStatement'}
 use Rattle.aud_typed.specs.declared.program.AcceptStatement.{AcceptStatement, AcceptStatement', Held-AcceptStatement-doing, None', Some'}
@@ -65,6 +65,7 @@ mutual
   statement_activates declares (EntryCall' _ at callee entry arguments form _ after _ otherwise) = (part_activates false (plain_row after) (row_activates false after), part_activates false (plain_row otherwise) (row_activates false otherwise))
   statement_activates declares (Delay at e) = tt
   statement_activates declares (Abort at ts) = tt
+  statement_activates declares (Requeue at r) = tt
   statement_activates declares (Accept' _ s) = accept_activates declares s
   statement_activates declares (Select' _ at _ alternatives _ otherwise) = (alternatives_activate alternatives, part_activates false (plain_row otherwise) (row_activates false otherwise))
 

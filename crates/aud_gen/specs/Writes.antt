@@ -118,6 +118,7 @@ IsAlone (memory.OwnEntryCall at arguments form) = Unit {0}
 IsAlone (memory.OperationCall at v c) = Unit {0}
 IsAlone (memory.Delay at e) = Unit {0}
 IsAlone (memory.Abort at ts) = Unit {0}
+IsAlone (memory.Requeue at r) = Unit {0}
 IsAlone s = ⊥
 
 -- an arm, which leads behind itself where there is more

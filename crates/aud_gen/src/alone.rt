@@ -1,17 +1,17 @@
 // The lines of statements that hold no others: one step each.
 
 ghost use Rattle.std.specs.Prelude.{length};
-ghost use Rattle.aud_typed.specs.Tree.{declare_tasks};
-ghost use Rattle.aud_typed.specs.Ties.View.{plain_statement, plain_tasks};
+ghost use Rattle.aud_typed.specs.Tree.{declare_tasks, requeue};
+ghost use Rattle.aud_typed.specs.Ties.View.{plain_requeue, plain_statement, plain_tasks};
 ghost use Rattle.aud_layout.specs.Layout.{in_call};
 ghost use Rattle.aud_layout.specs.Leading.{around};
 ghost use Rattle.aud_gen.specs.Writes.{statement_lines, IsAlone, Writes, WritesInside};
 
 use crate::writer::Writer;
-use aud_code::line::{Among, Ending};
+use aud_code::line::{Among, Ending, EntryAgain};
 use aud_layout::ways::Ways;
 use aud_text::place::Pos;
-use aud_typed::program::{Statement, Tasks};
+use aud_typed::program::{Callee, Requeue, Statement, Tasks};
 
 impl Writer {
     /// A statement's step, from which these ways lead out. Its exceptions go to the place `out`; behind it comes the
@@ -106,6 +106,7 @@ impl Writer {
                 self.write_names(tasks);
                 self.concern(Among::Abort, next, *at, out, ways.within)
             }
+            Statement::Requeue(at, requeue) => { self.write_requeue(requeue, *at, ways, out, next) }
             Statement::If(_)
             | Statement::While(..)
             | Statement::Loop(_)
@@ -132,6 +133,36 @@ impl Writer {
         match tasks.try_clone(self.alloc()) {
             Ok(tasks) => self.concern(Among::DeclareTasks(tasks), next, at, out, within),
             Err(_) => self.refuse(),
+        }
+    }
+
+    // The step of a requeue. An object is found where the step ends.
+    fn write_requeue(&mut self, r: &Requeue, at: Pos, ways: &Ways, out: usize, next: usize)
+        ensures { WritesInside self.old self.new (around out ways.now) (λ place a.
+            statement_lines (requeue at (plain_requeue r.now)) place next a) }
+    {
+        let again = EntryAgain {
+            entry: r.entry,
+            with_formals: r.with_formals,
+            with_abort: r.with_abort,
+        };
+        match &r.callee {
+            Callee::Task(task) => {
+                self.write_name(task);
+                let among = Among::RequeueTask {
+                    again,
+                    way: ways.back,
+                };
+                self.concern(among, next, at, out, ways.within)
+            }
+            Callee::Object(object) => {
+                let among = Among::RequeueObject {
+                    object: *object,
+                    again,
+                    way: ways.back,
+                };
+                self.concern(among, next, at, out, ways.within)
+            }
         }
     }
 }

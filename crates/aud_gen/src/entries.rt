@@ -1,12 +1,12 @@
 // The steps of entry calls and accepts.
 
-ghost use Rattle.std.specs.Prelude.{◌≡◌, ◌∷◌, [], length, IfOk};
+ghost use Rattle.std.specs.Prelude.{◌≡◌, ◌∷◌, [], length, IfOk, None};
 ghost use Rattle.aud_typed.specs.declared.program.AcceptStatement.{out-AcceptStatement};
 ghost use Rattle.aud_typed.specs.declared.program.EntryCallStatement.{out-EntryCallStatement};
 ghost use Rattle.aud_typed.specs.Tree.{part_of};
 ghost use Rattle.aud_typed.specs.Ties.View.{alternatives_in, doing_in, entry_call_in, plain_callee, plain_form, plain_statements};
 ghost use Rattle.aud_meaning.specs.Statements.{has_else, region_of};
-ghost use Rattle.aud_code.specs.View.{behind_offers, beside, bodies_in, bodies_offered, plain_among, plain_kind};
+ghost use Rattle.aud_code.specs.View.{behind_offers, beside, bodies_in, bodies_offered, plain_among, plain_kind, way_beside};
 ghost use Rattle.aud_layout.specs.Instructions.{call_end, delays_code, form_kind, guards_code, instructions_of};
 ghost use Rattle.aud_layout.specs.Layout.{bodies_from_by, doing_place, part_place, parts_from_by, ways_count};
 ghost use Rattle.aud_layout.specs.Leading.{around};
@@ -239,6 +239,7 @@ fn call_of(call: &EntryCallStatement, otherwise: usize) -> Among
         plain_among result ≡ call_end (plain_callee c.callee) c.entry (plain_form c.form)) }
     ensures ways { beside result ≡ otherwise ∷ [] }
     ensures bodies { bodies_in result ≡ [] }
+    ensures exit { way_beside result ≡ None }
 {
     let entry = call.entry;
     let kind = kind_of(&call.form);

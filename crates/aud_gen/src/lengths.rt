@@ -8,7 +8,7 @@ ghost use Rattle.aud_typed.specs.Ties.View.{plain_integer, plain_task, plain_tas
 ghost use Rattle.aud_typed.specs.declared.program.Subtype.{Subtype};
 ghost use Rattle.aud_layout.specs.Instructions.{argument_code, arguments_code, copied_code};
 ghost use Rattle.aud_layout.specs.Instructions.{delay_code, form_code, guards_code, delays_code, instructions_of};
-ghost use Rattle.aud_layout.specs.Instructions.{called_code, components_code, entered_code, into_code};
+ghost use Rattle.aud_layout.specs.Instructions.{called_code, components_code, entered_code, into_code, requeue_code};
 ghost use Rattle.aud_layout.specs.Instructions.{integer_code, task_code, names_code, condition_code, value_code, reference_code, text_code};
 ghost use Rattle.aud_layout.specs.Layout.{statement_size_by, part_size_by, handlers_size_by, body_size_by, end_place_by, doing_size_by, offered_size_by};
 ghost use Rattle.aud_layout.specs.Written.{flat_step};
@@ -207,6 +207,16 @@ fn callee_length(callee: &Callee) -> usize
     }
 }
 
+// Of whose entry a call is made again on.
+fn requeue_length(callee: &Callee) -> usize
+    ensures { result ≡ counted (length (requeue_code (plain_callee callee.now))) }
+{
+    match callee {
+        Callee::Task(task) => task_length(task).saturating_add(1),
+        Callee::Object(_) => 0,
+    }
+}
+
 /// Of the instructions of an entry call.
 pub fn call_length(call: &EntryCallStatement) -> usize
     ensures { result ≡ counted (length (instructions_of (entry_call_in call.now))) }
@@ -366,6 +376,7 @@ pub fn statement_length(s: &Statement, ways: usize) -> usize
         Statement::Accept(accept) => doing_length(&accept.doing).saturating_add(1),
         Statement::Select(select) => select_length(select, ways),
         Statement::Abort(_, tasks) => names_length(tasks).saturating_add(1),
+        Statement::Requeue(_, requeue) => requeue_length(&requeue.callee).saturating_add(1),
     }
 }
 

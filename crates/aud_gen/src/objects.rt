@@ -1,6 +1,6 @@
 // The instructions of calls of procedures and functions, of tasks that are named, of objects that are declared, and of barriers.
 
-ghost use Rattle.std.specs.Prelude.{◌≡◌, ◌∷◌, length, map, IfOk};
+ghost use Rattle.std.specs.Prelude.{◌≡◌, ◌∷◌, map, IfOk};
 ghost use Rattle.aud_typed.specs.Ties.View.{plain_arguments, plain_callee, plain_calling, plain_form, plain_into, plain_task, plain_task_names, plain_value, plain_values};
 ghost use Rattle.aud_code.specs.Instruction.{BeginObject};
 ghost use Rattle.aud_code.specs.Tabled.{AllDecided, IsDecided};
@@ -73,7 +73,8 @@ impl Writer {
         }
     }
 
-    fn write_name(&mut self, task: &TaskName)
+    /// The name of a task.
+    pub fn write_name(&mut self, task: &TaskName)
         ensures { Instructs self.old self.new (name_code (plain_task task.now)) }
     {
         self.write_task(task);

@@ -59,7 +59,8 @@ impl Writer {
             | Statement::OwnEntryCall(..)
             | Statement::OperationCall(..)
             | Statement::Delay(..)
-            | Statement::Abort(..) => self.write_alone(s, ways, out, next),
+            | Statement::Abort(..)
+            | Statement::Requeue(..) => self.write_alone(s, ways, out, next),
         }
     }
 

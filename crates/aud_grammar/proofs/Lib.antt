@@ -32,4 +32,4 @@ pub mod TaskRows
 pub mod RendezvousRows
 pub mod ProtectedRows
 pub mod AbortRows
-pub mod LaterRows
+pub mod RequeueRows

@@ -40,7 +40,8 @@ statement_told (t_one (later (later (later (later (later (later (later (later he
 statement_told (t_one (later (later (later (later (later (later (later (later (later here))))))))) s r) = t_part s r
 statement_told (t_one (later (later (later (later (later (later (later (later (later (later here)))))))))) s r) = t_part s r
 statement_told (t_one (later (later (later (later (later (later (later (later (later (later (later here))))))))))) s r) = t_part s r
-statement_told (t_one (later (later (later (later (later (later (later (later (later (later (later (later h)))))))))))) s r) = absurd (no_member h)
+statement_told (t_one (later (later (later (later (later (later (later (later (later (later (later (later here)))))))))))) s r) = t_part s r
+statement_told (t_one (later (later (later (later (later (later (later (later (later (later (later (later (later h))))))))))))) s r) = absurd (no_member h)
 
 pub null_statement_told : {k : List Symbol} {ds : List Item} {ws : List Word} → Told (rule g.NullStatement ++ k) ds ws → Told (N g.NullStatement ∷ k) (made g.NullStatement ds) ws
 null_statement_told (t_token n (t_word s r)) = t_part (says_statement (m.null n.at) w.null_words refl) r

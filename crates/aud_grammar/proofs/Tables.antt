@@ -43,7 +43,7 @@ abbrev behind_mode : List ℕ
 behind_mode = 100 ∷ []
 
 abbrev behind_body : List ℕ
-behind_body = 0 ∷ 3 ∷ 10 ∷ 14 ∷ 15 ∷ 19 ∷ 20 ∷ 21 ∷ 22 ∷ 23 ∷ 24 ∷ 25 ∷ 26 ∷ 29 ∷ 34 ∷ 38 ∷ 40 ∷ 48 ∷ 49 ∷ 50 ∷ 56 ∷ 58 ∷ 64 ∷ 70 ∷ 71 ∷ 100 ∷ 999 ∷ []
+behind_body = 0 ∷ 3 ∷ 10 ∷ 14 ∷ 15 ∷ 19 ∷ 20 ∷ 21 ∷ 22 ∷ 23 ∷ 24 ∷ 25 ∷ 26 ∷ 29 ∷ 34 ∷ 38 ∷ 40 ∷ 48 ∷ 49 ∷ 50 ∷ 55 ∷ 56 ∷ 58 ∷ 64 ∷ 70 ∷ 71 ∷ 100 ∷ 999 ∷ []
 
 abbrev behind_handlers : List ℕ
 behind_handlers = 21 ∷ []
@@ -61,7 +61,7 @@ abbrev behind_statements : List ℕ
 behind_statements = 19 ∷ 20 ∷ 21 ∷ 23 ∷ 40 ∷ 70 ∷ []
 
 abbrev behind_statement : List ℕ
-behind_statement = 0 ∷ 3 ∷ 10 ∷ 14 ∷ 15 ∷ 19 ∷ 20 ∷ 21 ∷ 23 ∷ 24 ∷ 25 ∷ 29 ∷ 34 ∷ 38 ∷ 40 ∷ 50 ∷ 56 ∷ 58 ∷ 70 ∷ 71 ∷ 100 ∷ []
+behind_statement = 0 ∷ 3 ∷ 10 ∷ 14 ∷ 15 ∷ 19 ∷ 20 ∷ 21 ∷ 23 ∷ 24 ∷ 25 ∷ 29 ∷ 34 ∷ 38 ∷ 40 ∷ 50 ∷ 55 ∷ 56 ∷ 58 ∷ 70 ∷ 71 ∷ 100 ∷ []
 
 abbrev behind_elsif : List ℕ
 behind_elsif = 19 ∷ 20 ∷ 21 ∷ []
@@ -134,9 +134,6 @@ behind_operation_body = 21 ∷ 22 ∷ 26 ∷ 48 ∷ []
 
 abbrev behind_more_names : List ℕ
 behind_more_names = 80 ∷ 85 ∷ []
-
-abbrev behind_requeue : List ℕ
-behind_requeue = []
 
 abbrev known : Phrase → ℕ × List ℕ
 known Unit = (5, behind_unit)
@@ -327,7 +324,7 @@ known ProcedureBody = (1, behind_operation_body)
 known FunctionBody = (1, behind_operation_body)
 known Abort = (1, behind_statement)
 known MoreNames = (1, behind_more_names)
-known Requeue = (1, behind_requeue)
+known Requeue = (1, behind_statement)
 known WithAbort = (1, behind_initial)
 
 -- how many rules may be entered before a token of the phrase is passed, its own among them

@@ -1,4 +1,4 @@
--- The grammar, as data: each phrase is a list of symbols. What is not let in yet has its rules too, and no choice leads to them.
+-- The grammar, as data: each phrase is a list of symbols.
 use Rattle.std.specs.Prelude.{List, [], ◌∷◌}
 use Rattle.aud_lex.specs.declared.token.Kind.{Kind}
 use Rattle.aud_lex.specs.declared.token.Kind.TheVariants as kind
@@ -32,9 +32,7 @@ pub data Phrase : Type 0 where
   Protected ProtectedRest ProtectedDeclaration PrivatePart PrivateItem PrivateOperation Components : Phrase
   Operation EntryOperation ProcedureOperation FunctionOperation : Phrase
   ProtectedBody OperationBody EntryBody ProcedureBody FunctionBody : Phrase
-  Abort MoreNames : Phrase
-  -- no choice leads to these yet
-  Requeue WithAbort : Phrase
+  Abort MoreNames Requeue WithAbort : Phrase
 
 -- the identifiers that the grammar names (RM A.10.1, 9.6)
 pub data Word : Type 0 where
@@ -114,7 +112,7 @@ rule MoreChoices = T kind.Bar ∷ N Identifier ∷ []
 -- statements lie one level deeper (RM 5.1)
 rule Statements = L StatementList ∷ Down ∷ []
 rule StatementList = N Statement ∷ Rep Statement ∷ []
-rule Statement = A (NullStatement ∷ NameStatement ∷ If ∷ Loop ∷ Block ∷ Exit ∷ Return ∷ Raise ∷ AcceptStatement ∷ DelayStatement ∷ Select ∷ Abort ∷ []) ∷ []
+rule Statement = A (NullStatement ∷ NameStatement ∷ If ∷ Loop ∷ Block ∷ Exit ∷ Return ∷ Raise ∷ AcceptStatement ∷ DelayStatement ∷ Select ∷ Abort ∷ Requeue ∷ []) ∷ []
 rule NullStatement = P kind.Null ∷ T kind.Semicolon ∷ []
 -- a loop or a block behind its name, an assignment or a call (RM 5.5, 5.6, 5.2, 6.4)
 rule NameStatement = N Identifier ∷ N NameRest ∷ []
@@ -279,7 +277,6 @@ rule FunctionBody = P kind.Function ∷ N Identifier ∷ Opt Formals ∷ T kind.
 -- RM 9.8
 rule Abort = P kind.Abort ∷ N Name ∷ Rep MoreNames ∷ T kind.Semicolon ∷ []
 rule MoreNames = T kind.Comma ∷ N Name ∷ []
--- What follows is not let in. A statement may then be Requeue.
 -- RM 9.5.4
 rule Requeue = P kind.Requeue ∷ N Name ∷ Opt WithAbort ∷ T kind.Semicolon ∷ []
 rule WithAbort = T kind.With ∷ T kind.Abort ∷ []

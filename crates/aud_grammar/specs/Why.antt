@@ -3,11 +3,11 @@ pub mod Alike
 pub mod Begun
 pub mod ControlRows
 pub mod Derives
-pub mod LaterRows
 pub mod Laws
 pub mod ProcedureRows
 pub mod ProtectedRows
 pub mod RendezvousRows
+pub mod RequeueRows
 pub mod Rows
 pub mod Spells
 pub mod TaskRows

@@ -8,7 +8,7 @@ ghost use Rattle.aud_grammar.specs.Why.TaskRows as tasks;
 ghost use Rattle.aud_grammar.specs.Why.RendezvousRows as rendezvous;
 ghost use Rattle.aud_grammar.specs.Why.ProtectedRows as protected;
 ghost use Rattle.aud_grammar.specs.Why.AbortRows as aborts;
-ghost use Rattle.aud_grammar.specs.Why.LaterRows as later;
+ghost use Rattle.aud_grammar.specs.Why.RequeueRows as requeues;
 
 /// The tree that is read is the tree that the tokens spell.
 pub fn spells_law()
@@ -165,12 +165,17 @@ pub fn levels_of_abort()
     ensures { aborts.LevelsOfAbort }
 {}
 
-/// The trees of small texts that are not let in yet, each as its phrase: requeue statements.
-pub fn trees_of_later()
-    ensures { later.TreesOfLater }
+/// The trees of small texts with requeue statements.
+pub fn trees_of_requeue()
+    ensures { requeues.TreesOfRequeue }
 {}
 
 /// The token at which such texts go wrong.
-pub fn faults_of_later()
-    ensures { later.FaultsOfLater }
+pub fn faults_of_requeue()
+    ensures { requeues.FaultsOfRequeue }
+{}
+
+/// The token at which such texts open a level too many.
+pub fn levels_of_requeue()
+    ensures { requeues.LevelsOfRequeue }
 {}

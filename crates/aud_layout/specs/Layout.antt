@@ -3,7 +3,7 @@
 use Rattle.std.specs.Prelude.{true, ℕ, suc, ◌+◌, List, [], ◌∷◌, ◌++◌, length, map, Option, Some, None, slice_get, slice_index_or}
 use Rattle.aud_text.specs.declared.place.Pos.{Pos}
 use Rattle.aud_typed.specs.declared.program.Exception.{Exception}
-use Rattle.aud_typed.specs.Tree.{For, truth, Statement, sequence, declare, if_then, plain_loop, while_loop, for_loop, exit, return, return_value, block, entry_call, accept, select, Part, nothing, some, Handlers, no_handlers, handler, Body, body, Doing, without_do, with_do, Alternatives, no_alternatives, accepting, delaying, terminating, Program}
+use Rattle.aud_typed.specs.Tree.{For, truth, Statement, sequence, declare, if_then, plain_loop, while_loop, for_loop, exit, return, return_value, requeue, block, entry_call, accept, select, Part, nothing, some, Handlers, no_handlers, handler, Body, body, Doing, without_do, with_do, Alternatives, no_alternatives, accepting, delaying, terminating, Program}
 use Rattle.aud_meaning.specs.declared.state.Construct.{Construct}
 use Rattle.aud_meaning.specs.declared.state.Construct.TheVariants as construct
 use Rattle.aud_meaning.specs.Evaluation.{decided}
@@ -196,6 +196,7 @@ module _ (behind : Statement → ℕ → ℕ) where
     statement_code_by (exit pos n c) place next a = line (exit pos n c) (next ∷ []) [] (Some (slice_index_or a.exits n (record { to = next; loops = 0 }))) a ∷ []
     statement_code_by (return pos) place next a = line (return pos) (next ∷ []) [] (Some a.back) a ∷ []
     statement_code_by (return_value pos x) place next a = line (return_value pos x) (next ∷ []) [] (Some a.back) a ∷ []
+    statement_code_by (requeue pos r) place next a = line (requeue pos r) (next ∷ []) [] (Some a.back) a ∷ []
     statement_code_by (block pos n b) place next a =
         let end = end_place_by b (behind (block pos n b) place) (ways_count a) in
         line (block pos n b) (next ∷ (behind (block pos n b) place) ∷ []) [] None a

@@ -8,7 +8,7 @@ use Rattle.aud_typed.specs.declared.program.Exception.TheVariants.{Predefined}
 use Rattle.aud_typed.specs.Tree.{Plan}
 use Rattle.aud_meaning.specs.Configuration.{Purpose, for_procedure, Target, Own, TaskAt, All, Acting}
 use Rattle.aud_meaning.specs.Evaluation.{Sight, Passed, nearest_zero}
-use Rattle.aud_meaning.specs.Control.{Asked, raises_here, raises_in_part, declares, declares_array, declares_tasks, declares_object, ends_activation, activates, goes_on, assigns, puts, enters_loop, next_of_loop, goes_out, raises, raises_again, enters_block, calls_procedure, calls_operation, calls_own_entry, calls_entry, delays, accepts, selects, aborts, ends, handles, is_left_by}
+use Rattle.aud_meaning.specs.Control.{Asked, raises_here, raises_in_part, declares, declares_array, declares_tasks, declares_object, ends_activation, activates, goes_on, assigns, puts, enters_loop, next_of_loop, goes_out, raises, raises_again, enters_block, calls_procedure, calls_operation, calls_own_entry, calls_entry, delays, accepts, selects, aborts, requeues, ends, handles, is_left_by}
 use Rattle.aud_meaning.specs.Effects as own
 use Rattle.aud_meaning.specs.Orders.{Orders}
 use Rattle.aud_meaning.specs.Parts.{alone, alone_by, changed, nobody, on_own, on_task, own_of, owns, raised_at, unit_of}
@@ -129,6 +129,7 @@ module _ {C : Type 0} where
     alone_is (accepts a) h = absurd h
     alone_is (selects has_else w at) h = absurd h
     alone_is (aborts ns at) h = absurd h
+    alone_is (requeues loops r) h = refl
     alone_is (ends loops) h = absurd h
     alone_is (handles p) h = task_alone n (λ t. record t { control = go.handling p.exception t.control; own = own.handles p t.own }) c
     alone_is (is_left_by p) h = absurd h

@@ -16,17 +16,19 @@ use Rattle.aud_meaning.specs.declared.state.Owner.TheVariants as owner
 use Rattle.aud_meaning.specs.declared.state.Pending.{Pending}
 use Rattle.aud_meaning.specs.declared.state.Resumed.{Resumed}
 use Rattle.aud_meaning.specs.declared.state.Serving.{Serving}
+use Rattle.aud_meaning.specs.declared.state.Again.{Again}
+use Rattle.aud_meaning.specs.declared.state.Restart.{Restart}
 use Rattle.aud_meaning.specs.declared.state.Action.{Action}
 use Rattle.aud_meaning.specs.declared.state.OpenAccept.{OpenAccept}
 use Rattle.aud_meaning.specs.Configuration.{Target, Returning, Purpose, for_body, for_block, for_loop, for_procedure, for_operation, for_entry, for_accept, Opened, Waits, Own, Call, TaskAt, All, Acting}
 use Rattle.aud_meaning.specs.Evaluation.{Sight, Passed, nearest_zero}
-use Rattle.aud_meaning.specs.Control.{Asked, raises_here, raises_in_part, declares, declares_array, declares_tasks, declares_object, ends_activation, activates, goes_on, assigns, puts, enters_loop, next_of_loop, goes_out, raises, raises_again, enters_block, calls_procedure, calls_operation, calls_own_entry, calls_entry, delays, accepts, selects, aborts, ends, handles, is_left_by, Moved, here, takes_part, does_accept, enters_body, passes_end, to_handler, out_by, Controls, moved, all_moved, ordered}
+use Rattle.aud_meaning.specs.Control.{Asked, raises_here, raises_in_part, declares, declares_array, declares_tasks, declares_object, ends_activation, activates, goes_on, assigns, puts, enters_loop, next_of_loop, goes_out, raises, raises_again, enters_block, calls_procedure, calls_operation, calls_own_entry, calls_entry, delays, accepts, selects, aborts, requeues, ends, handles, is_left_by, Moved, here, takes_part, does_accept, enters_body, passes_end, to_handler, out_by, Controls, moved, all_moved, ordered}
 use Rattle.aud_meaning.specs.Effects.{pends, opens, closed, innermost, outermost, out_of_loops, has_room, copied_back, CopiedBack}
 use Rattle.aud_meaning.specs.Parts.{Outcome, succeeds, fails, Waiting, acts_on, alone, alone_by, alternative_of, any, arrives, begin_action, blocks, calls_on_object, cancels, changed, end_action, entry_plan, exception_of, facts_in, object_of, on_object, on_shared, call_number, call_of, calls_on_task, depends, in_action, is_callable, is_created, new_call, no_waits, nobody, numbers, on_call, on_control, on_own, on_task, open_alternatives, own_of, owns, queue, raised_at, runs, stands_at_call, unit_of, with_frames}
 use Rattle.aud_meaning.specs.Orders.{noted, carried_out}
 use Rattle.aud_meaning.specs.Effects as own
 use Rattle.aud_meaning.specs.declared.state.Move.{Move}
-use Rattle.aud_meaning.specs.Run.{Turn, resting, closing, completing, withdrawing, serving, expiring, cancelling, acting, alternative_or_none, turn_taken, turn_at, seen, scene_of, step_of}
+use Rattle.aud_meaning.specs.Run.{Turn, resting, closing, completing, withdrawing, serving, restarting, expiring, cancelling, acting, alternative_or_none, turn_taken, turn_at, seen, scene_of, step_of}
 use Rattle.aud_meaning.specs.Why.Carried.{CarriedLaw, carried_by}
 use Rattle.aud_meaning.specs.Tasks as effect
 use Rattle.aud_meaning.specs.Step as step
@@ -338,22 +340,15 @@ module _ {C : Type 0} (k : Controls C) where
           ∙ ap (effect.returned_or (carried_out k) plan barrier p r o.frame o.at n) (close_master_same o.frame (on_own n closed d))
           ∙ returned_or_same p r o.frame o.at n (effect.close_master noted plan barrier o.frame (on_own n closed d))
 
-      accept_end_same : (p : Option Pending) (id : ℕ) (o : Opened) (n : ℕ) (d : All Moved) → effect.at_accept_end (carried_out k) plan barrier p id o n (K d) ≡ K (effect.at_accept_end noted plan barrier p id o n d)
-      accept_end_same None id o n d =
-          let out : Outcome = succeeds (effect.formals_now noted plan barrier o.frame (length (call_of id d).values) d) in
-          ap (effect.end_call (carried_out k) plan barrier out id) (on_own_same n closed d) ∙ end_call_same out id (on_own n closed d)
-      accept_end_same (Some p) id o n d =
-          let f : Own → Own = (λ own. pends p.exception o.at (closed own)) in
-          ap (effect.end_call (carried_out k) plan barrier (fails p.exception) id) (on_own_same n f d) ∙ end_call_same (fails p.exception) id (on_own n f d)
-
       -- Rendezvous.
 
       rendezvous_by_same : (region : Option ℕ) (a : OpenAccept) (id n : ℕ) (d : All Moved) → effect.rendezvous_by (carried_out k) plan barrier region a id n (K d) ≡ K (effect.rendezvous_by noted plan barrier region a id n d)
       rendezvous_by_same None a id n d =
           let f : TaskAt Moved → TaskAt Moved = (λ t. record { control = takes_part a.alternative t.control; own = runs t.own }) in
           let g : TaskAt C → TaskAt C = (λ t. record { control = k.takes a.alternative t.control; own = runs t.own }) in
-          ap (effect.end_call (carried_out k) plan barrier (succeeds (call_of id d).values) id) (on_task_same n f g (λ x m. refl) d)
-          ∙ end_call_same (succeeds (call_of id d).values) id (on_task n f d)
+          let out : Outcome = succeeds ((call_of id d).values ++ (call_of id d).unseen) in
+          ap (effect.end_call (carried_out k) plan barrier out id) (on_task_same n f g (λ x m. refl) d)
+          ∙ end_call_same out id (on_task n f d)
       rendezvous_by_same (Some region) a id n d =
           let f : TaskAt Moved → TaskAt Moved = (λ t. record { control = does_accept a.alternative t.control; own = runs t.own }) in
           let g : TaskAt C → TaskAt C = (λ t. record { control = k.accepts a.alternative t.control; own = runs t.own }) in
@@ -363,6 +358,38 @@ module _ {C : Type 0} (k : Controls C) where
 
       rendezvous_same : (a : OpenAccept) (id n : ℕ) (d : All Moved) → effect.rendezvous (carried_out k) plan barrier a id n (K d) ≡ K (effect.rendezvous noted plan barrier a id n d)
       rendezvous_same a id n d = rendezvous_by_same a.region a id n (on_call id (λ call. record call { state = Selected }) d)
+
+      -- Requeue.
+
+      made_again_same : (alternative : Option ℕ) (ones : List OpenAccept) (id task : ℕ) (d : All Moved) → effect.made_again (carried_out k) plan barrier alternative ones id task (K d) ≡ K (effect.made_again noted plan barrier alternative ones id task d)
+      made_again_same alternative [] id task d = refl
+      made_again_same alternative (a ∷ more) id task d = rendezvous_same (alternative_of alternative a (a ∷ more)) id task d
+
+      lost_same : (call : Call) (d : All Moved) → effect.is_lost (carried_out k) plan barrier call (K d) ≡ effect.is_lost noted plan barrier call d
+      lost_same call d = ap (λ (own : Own). not call.stays && own.abnormal) (own_there call.caller d)
+
+      requeued_on_same : (alternative : Option ℕ) (o : Owner) (at : Pos) (id n : ℕ) (d : All Moved) → effect.requeued_on (carried_out k) plan barrier alternative o at id n (K d) ≡ K (effect.requeued_on noted plan barrier alternative o at id n d)
+      requeued_on_same alternative (owner.Task task) at id n d =
+          let entry = (call_of id d).entry in
+          choose (effect.is_lost (carried_out k) plan barrier (call_of id d) (K d)) (effect.is_lost noted plan barrier (call_of id d) d) (lost_same (call_of id d) d) _ _ _ _ refl
+          (ap (λ (own : Own). if is_callable own then effect.made_again (carried_out k) plan barrier alternative (open_alternatives own entry) id task (on_call id (effect.called_of (carried_out k) plan barrier (owner.Task task)) (K d)) else effect.end_call (carried_out k) plan barrier (fails (Predefined Tasking)) id (K d)) (own_there task d)
+          ∙ choose_by (is_callable (own_of task d)) _ _ _ _ (made_again_same alternative (open_alternatives (own_of task d) entry) id task (on_call id (effect.called_of noted plan barrier (owner.Task task)) d)) (end_call_same (fails (Predefined Tasking)) id d))
+      requeued_on_same alternative (owner.Object object) at id n d = on_own_same n (λ own. record own { restart = Some (record { call = id; object = object; at = at }) }) d
+
+      accept_ended_same : (alternative : Option ℕ) (r : Option Again) (values : List ℤ) (id n : ℕ) (d : All Moved) → effect.accept_ended (carried_out k) plan barrier alternative r values id n (K d) ≡ K (effect.accept_ended noted plan barrier alternative r values id n d)
+      accept_ended_same alternative None values id n d = end_call_same (succeeds values) id d
+      accept_ended_same alternative (Some r) values id n d = requeued_on_same alternative r.owner r.at id n (on_call id (effect.retargeted noted plan barrier r values) d)
+
+      accept_end_same : (alternative : Option ℕ) (p : Option Pending) (id : ℕ) (o : Opened) (n : ℕ) (d : All Moved) → effect.at_accept_end (carried_out k) plan barrier alternative p id o n (K d) ≡ K (effect.at_accept_end noted plan barrier alternative p id o n d)
+      accept_end_same alternative None id o n d =
+          let values : List ℤ = effect.present_values noted plan barrier id o.frame d in
+          let f : Own → Own = (λ own. record (closed own) { again = None }) in
+          ap (λ (own : Own). effect.accept_ended (carried_out k) plan barrier alternative own.again values id n (on_own n f (K d))) (own_there n d)
+          ∙ ap (effect.accept_ended (carried_out k) plan barrier alternative (own_of n d).again values id n) (on_own_same n f d)
+          ∙ accept_ended_same alternative (own_of n d).again values id n (on_own n f d)
+      accept_end_same alternative (Some p) id o n d =
+          let f : Own → Own = (λ own. pends p.exception o.at (record (closed own) { again = None })) in
+          ap (effect.end_call (carried_out k) plan barrier (fails p.exception) id) (on_own_same n f d) ∙ end_call_same (fails p.exception) id (on_own n f d)
 
       accepts_oldest_same : (a : OpenAccept) (ws : List Waiting) (n : ℕ) (d : All Moved) → effect.accepts_oldest (carried_out k) plan barrier a ws n (K d) ≡ K (effect.accepts_oldest noted plan barrier a ws n d)
       accepts_oldest_same a [] n d = on_own_same n (blocks Accepting a.at (record { accepts = a ∷ []; delays = []; terminate = false })) d
@@ -482,6 +509,17 @@ module _ {C : Type 0} (k : Controls C) where
           ∙ barrier_met_same (effect.barrier_of plan barrier object call.entry d) call.at object id n d1)
           (raised_same Storage call.at n d))
 
+      starts_again_same : (r : Restart) (n : ℕ) (d : All Moved) → effect.starts_again (carried_out k) plan barrier r n (K d) ≡ K (effect.starts_again noted plan barrier r n d)
+      starts_again_same r n d =
+          let call = call_of r.call d in
+          let f : Own → Own = (λ own. record own { restart = None }) in
+          let makes : All C → All C = (λ e. begin_action n r.object false (on_call r.call (effect.called_of (carried_out k) plan barrier (owner.Object r.object)) e)) in
+          choose (effect.is_lost (carried_out k) plan barrier call (K d)) (effect.is_lost noted plan barrier call d) (lost_same call d) _ _ _ _
+          (ap (cancels r.call) (on_own_same n f d))
+          (ap (λ b. effect.barrier_met (carried_out k) plan barrier b r.at r.object r.call n (makes (on_own n f (K d)))) (barrier_same r.object call.entry d)
+          ∙ ap (λ (e : All C). effect.barrier_met (carried_out k) plan barrier (effect.barrier_of plan barrier r.object call.entry d) r.at r.object r.call n (makes e)) (on_own_same n f d)
+          ∙ barrier_met_same (effect.barrier_of plan barrier r.object call.entry d) r.at r.object r.call n (begin_action n r.object false (on_call r.call (effect.called_of noted plan barrier (owner.Object r.object)) (on_own n f d))))
+
       calls_operation_same : (at : Pos) (object unit : ℕ) (p : Passed) (into : Option Target) (n : ℕ) (d : All Moved) → effect.calls_operation (carried_out k) plan barrier at object unit p into n (K d) ≡ K (effect.calls_operation noted plan barrier at object unit p into n d)
       calls_operation_same at object unit p into n d =
           let u = unit_of plan unit in
@@ -500,13 +538,23 @@ module _ {C : Type 0} (k : Controls C) where
           (ap (effect.returned_or (carried_out k) plan barrier p r o.frame o.at n) (on_own_same n closed d) ∙ returned_or_same p r o.frame o.at n (on_own n closed d))
           ∙ choose_by r.is_function _ _ _ _ (end_action_same n object d1) (serviced_same object o.at n d1)
 
+      queued_again_same : (object id : ℕ) (d : All Moved) → effect.queued_again (carried_out k) plan barrier object id (K d) ≡ K (effect.queued_again noted plan barrier object id d)
+      queued_again_same object id d = choose (effect.is_lost (carried_out k) plan barrier (call_of id d) (K d)) (effect.is_lost noted plan barrier (call_of id d) d) (lost_same (call_of id d) d) _ _ _ _ refl refl
+
+      entry_ended_same : (p : Option Pending) (r : Option Again) (values : List ℤ) (object id : ℕ) (d : All Moved) → effect.entry_ended (carried_out k) plan barrier p r values object id (K d) ≡ K (effect.entry_ended noted plan barrier p r values object id d)
+      entry_ended_same (Some p) r values object id d = end_call_same (fails p.exception) id d
+      entry_ended_same None None values object id d = end_call_same (succeeds values) id d
+      entry_ended_same None (Some r) values object id d = queued_again_same object id (on_call id (effect.retargeted noted plan barrier r values) d)
+
       entry_end_same : (p : Option Pending) (object id : ℕ) (back : Resumed) (o : Opened) (n : ℕ) (d : All Moved) → effect.at_entry_end (carried_out k) plan barrier p object id back o n (K d) ≡ K (effect.at_entry_end noted plan barrier p object id back o n d)
       entry_end_same p object id back o n d =
-          let out : Outcome = effect.entry_outcome noted plan barrier p (effect.formals_now noted plan barrier o.frame (length (call_of id d).values) d) in
-          let f : Own → Own = (λ own. record (closed own) { status = back.status; pending = back.pending }) in
-          ap (λ (e : All C). effect.serviced (carried_out k) plan barrier object o.at n (effect.end_call (carried_out k) plan barrier out id e)) (on_own_same n f d)
-          ∙ ap (effect.serviced (carried_out k) plan barrier object o.at n) (end_call_same out id (on_own n f d))
-          ∙ serviced_same object o.at n (effect.end_call noted plan barrier out id (on_own n f d))
+          let values : List ℤ = effect.present_values noted plan barrier id o.frame d in
+          let f : Own → Own = (λ own. record (closed own) { status = back.status; pending = back.pending; again = None }) in
+          let r : Option Again = (own_of n d).again in
+          ap (λ (own : Own). effect.serviced (carried_out k) plan barrier object o.at n (effect.entry_ended (carried_out k) plan barrier p own.again values object id (on_own n f (K d)))) (own_there n d)
+          ∙ ap (λ (e : All C). effect.serviced (carried_out k) plan barrier object o.at n (effect.entry_ended (carried_out k) plan barrier p r values object id e)) (on_own_same n f d)
+          ∙ ap (effect.serviced (carried_out k) plan barrier object o.at n) (entry_ended_same p r values object id (on_own n f d))
+          ∙ serviced_same object o.at n (effect.entry_ended noted plan barrier p r values object id (on_own n f d))
 
       serves_oldest_same : (ws : List Waiting) (s : Serving) (n : ℕ) (d : All Moved) → effect.serves_oldest (carried_out k) plan barrier ws s n (K d) ≡ K (effect.serves_oldest noted plan barrier ws s n d)
       serves_oldest_same [] s n d = refl
@@ -592,23 +640,23 @@ module _ {C : Type 0} (k : Controls C) where
 
       -- The leaving step of the innermost construct.
 
-      at_end_by_same : (u : Purpose) (p : Option Pending) (o : Opened) (n : ℕ) (d : All Moved) → effect.at_end_by (carried_out k) plan barrier u p o n (K d) ≡ K (effect.at_end_by noted plan barrier u p o n d)
-      at_end_by_same for_body p o n d = completes_same (exception_of p) n d
-      at_end_by_same for_block p o n d = ap (effect.at_block_end (carried_out k) plan barrier p o n) (on_own_same n out_of_loops d) ∙ block_end_same p o n (on_own n out_of_loops d)
-      at_end_by_same for_loop p o n d = refl
-      at_end_by_same (for_procedure r) p o n d = ap (effect.at_procedure_end (carried_out k) plan barrier p r o n) (on_own_same n out_of_loops d) ∙ procedure_end_same p r o n (on_own n out_of_loops d)
-      at_end_by_same (for_operation object r) p o n d = ap (effect.at_operation_end (carried_out k) plan barrier p object r o n) (on_own_same n out_of_loops d) ∙ operation_end_same p object r o n (on_own n out_of_loops d)
-      at_end_by_same (for_entry object id served back) p o n d = ap (effect.at_entry_end (carried_out k) plan barrier p object id back o n) (on_own_same n out_of_loops d) ∙ entry_end_same p object id back o n (on_own n out_of_loops d)
-      at_end_by_same (for_accept id) p o n d = ap (effect.at_accept_end (carried_out k) plan barrier p id o n) (on_own_same n out_of_loops d) ∙ accept_end_same p id o n (on_own n out_of_loops d)
+      at_end_by_same : (alternative : Option ℕ) (u : Purpose) (p : Option Pending) (o : Opened) (n : ℕ) (d : All Moved) → effect.at_end_by (carried_out k) plan barrier alternative u p o n (K d) ≡ K (effect.at_end_by noted plan barrier alternative u p o n d)
+      at_end_by_same alternative for_body p o n d = completes_same (exception_of p) n d
+      at_end_by_same alternative for_block p o n d = ap (effect.at_block_end (carried_out k) plan barrier p o n) (on_own_same n out_of_loops d) ∙ block_end_same p o n (on_own n out_of_loops d)
+      at_end_by_same alternative for_loop p o n d = refl
+      at_end_by_same alternative (for_procedure r) p o n d = ap (effect.at_procedure_end (carried_out k) plan barrier p r o n) (on_own_same n out_of_loops d) ∙ procedure_end_same p r o n (on_own n out_of_loops d)
+      at_end_by_same alternative (for_operation object r) p o n d = ap (effect.at_operation_end (carried_out k) plan barrier p object r o n) (on_own_same n out_of_loops d) ∙ operation_end_same p object r o n (on_own n out_of_loops d)
+      at_end_by_same alternative (for_entry object id served back) p o n d = ap (effect.at_entry_end (carried_out k) plan barrier p object id back o n) (on_own_same n out_of_loops d) ∙ entry_end_same p object id back o n (on_own n out_of_loops d)
+      at_end_by_same alternative (for_accept id) p o n d = ap (effect.at_accept_end (carried_out k) plan barrier alternative p id o n) (on_own_same n out_of_loops d) ∙ accept_end_same alternative p id o n (on_own n out_of_loops d)
 
-      at_end_of_same : (os : List Opened) (p : Option Pending) (n : ℕ) (d : All Moved) → effect.at_end_of (carried_out k) plan barrier os p n (K d) ≡ K (effect.at_end_of noted plan barrier os p n d)
-      at_end_of_same [] p n d = refl
-      at_end_of_same (o ∷ os) p n d = at_end_by_same o.purpose p o n d
+      at_end_of_same : (alternative : Option ℕ) (os : List Opened) (p : Option Pending) (n : ℕ) (d : All Moved) → effect.at_end_of (carried_out k) plan barrier alternative os p n (K d) ≡ K (effect.at_end_of noted plan barrier alternative os p n d)
+      at_end_of_same alternative [] p n d = refl
+      at_end_of_same alternative (o ∷ os) p n d = at_end_by_same alternative o.purpose p o n d
 
-      at_end_same : (p : Option Pending) (n : ℕ) (d : All Moved) → effect.at_end (carried_out k) plan barrier p n (K d) ≡ K (effect.at_end noted plan barrier p n d)
-      at_end_same p n d =
-          ap (λ (own : Own). effect.at_end_of (carried_out k) plan barrier (out_of_loops own).opened p n (K d)) (own_there n d)
-          ∙ at_end_of_same (out_of_loops (own_of n d)).opened p n d
+      at_end_same : (alternative : Option ℕ) (p : Option Pending) (n : ℕ) (d : All Moved) → effect.at_end (carried_out k) plan barrier alternative p n (K d) ≡ K (effect.at_end noted plan barrier alternative p n d)
+      at_end_same alternative p n d =
+          ap (λ (own : Own). effect.at_end_of (carried_out k) plan barrier alternative (out_of_loops own).opened p n (K d)) (own_there n d)
+          ∙ at_end_of_same alternative (out_of_loops (own_of n d)).opened p n d
 
       -- Before anything is ordered.
 
@@ -647,12 +695,12 @@ module _ {C : Type 0} (k : Controls C) where
         abbrev Says : Option ℕ → Asked → Type 0
         Says alternative a = (n : ℕ) → step.done (carried_out k) plan barrier limits alternative a n (K start) ≡ K (step.done noted plan barrier limits alternative a n start)
 
-        leaves_same : (p : Option Pending) (to : Moved → Moved) (To : C → C) → ((x : C) (m : Moved) → To (moved k x m) ≡ moved k x (to m)) → (n : ℕ) (d : All Moved) → step.leaves (carried_out k) plan barrier p To n (K d) ≡ K (step.leaves noted plan barrier p to n d)
-        leaves_same p to To h n d =
+        leaves_same : (alternative : Option ℕ) (p : Option Pending) (to : Moved → Moved) (To : C → C) → ((x : C) (m : Moved) → To (moved k x m) ≡ moved k x (to m)) → (n : ℕ) (d : All Moved) → step.leaves (carried_out k) plan barrier alternative p To n (K d) ≡ K (step.leaves noted plan barrier alternative p to n d)
+        leaves_same alternative p to To h n d =
             let f : TaskAt Moved → TaskAt Moved = (λ t. record t { control = to t.control; own = record t.own { pending = None } }) in
             let g : TaskAt C → TaskAt C = (λ t. record t { control = To t.control; own = record t.own { pending = None } }) in
-            ap (effect.at_end (carried_out k) plan barrier p n) (on_task_same n f g (λ x m. ap (λ (y : C). record { control = y; own = record m.own { pending = None } }) (h x m.control)) d)
-            ∙ at_end_same p n (on_task n f d)
+            ap (effect.at_end (carried_out k) plan barrier alternative p n) (on_task_same n f g (λ x m. ap (λ (y : C). record { control = y; own = record m.own { pending = None } }) (h x m.control)) d)
+            ∙ at_end_same alternative p n (on_task n f d)
 
         done_same : (alternative : Option ℕ) (a : Asked) → Says alternative a
         done_same alternative (raises_here raise at) n = raised_same raise at n start
@@ -666,7 +714,8 @@ module _ {C : Type 0} (k : Controls C) where
         done_same alternative (accepts a) n = accepts_call_same a n start
         done_same alternative (selects has_else waits at) n = selects_same alternative has_else waits at n start
         done_same alternative (aborts ns at) n = aborts_same ns at n start
-        done_same alternative (is_left_by p) n = leaves_same (Some p) (out_by p.exception) (k.left p.exception) (λ x m. refl) n start
+        done_same alternative (requeues loops r) n = alone_same n (λ t. step.out_of_loops noted plan barrier loops (step.requeued noted plan barrier r t)) (λ t. step.out_of_loops (carried_out k) plan barrier loops (step.requeued (carried_out k) plan barrier r t)) (λ x t. refl) start
+        done_same alternative (is_left_by p) n = leaves_same alternative (Some p) (out_by p.exception) (k.left p.exception) (λ x m. refl) n start
         done_same alternative (declares up_to z) n = alone_same n (step.variable_declared noted plan barrier up_to z) (step.variable_declared (carried_out k) plan barrier up_to z) (λ x t. refl) start
         done_same alternative (declares_array at t length) n =
             choose_by (nat_le length ELEMENTS) _ _ _ _
@@ -700,8 +749,8 @@ module _ {C : Type 0} (k : Controls C) where
         done_same alternative (calls_entry (owner.Task task) call) n = calls_task_same alternative (call_record n (owner.Task task) call) task start
         done_same alternative (calls_entry (owner.Object object) call) n = calls_object_same (call_record n (owner.Object object) call) object start
         done_same alternative (ends loops) n =
-            ap (on_own n (own.out_of loops)) (leaves_same None passes_end k.behind (λ x m. refl) n start)
-            ∙ on_own_same n (own.out_of loops) (step.leaves noted plan barrier None passes_end n start)
+            ap (on_own n (own.out_of loops)) (leaves_same alternative None passes_end k.behind (λ x m. refl) n start)
+            ∙ on_own_same n (own.out_of loops) (step.leaves noted plan barrier alternative None passes_end n start)
         done_same alternative (handles p) n = on_task_same n (λ t. record t { control = to_handler p.exception t.control; own = own.handles p t.own }) (λ t. record t { control = k.handling p.exception t.control; own = own.handles p t.own }) (λ x m. refl) start
 
         turn_same : (u : Turn) (a : Asked) (m : Move) → turn_taken (carried_out k) plan barrier limits u a m (K start) ≡ K (turn_taken noted plan barrier limits u a m start)
@@ -709,6 +758,7 @@ module _ {C : Type 0} (k : Controls C) where
         turn_same closing a m = closes_same m.task start
         turn_same completing a m = completes_same None m.task start
         turn_same (withdrawing object) a m = withdraws_same object m.task start
+        turn_same (restarting r) a m = starts_again_same r m.task start
         turn_same (serving s) a m = serves_same m.alternative s m.task start
         turn_same (expiring ds) a m = delay_expires_same (alternative_or_none m.alternative) m.task start
         turn_same (cancelling id) a m = call_expires_same m.task start

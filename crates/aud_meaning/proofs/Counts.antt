@@ -11,7 +11,7 @@ use Rattle.aud_meaning.specs.Evaluation.{Sight}
 use Rattle.aud_meaning.specs.Control.{Coming, simply, ending, selecting, calling, starting, Seen, Controls}
 use Rattle.aud_meaning.specs.Parts.{owns}
 use Rattle.aud_meaning.specs.declared.state.Move.{Move}
-use Rattle.aud_meaning.specs.Run.{picks, Turn, resting, closing, completing, withdrawing, serving, expiring, cancelling, acting, turn, only, each_or_one, serve_moves, end_moves, call_moves, acting_moves, turn_moves, moves_from, has_ended, moves_by, waiting_by, some_move, state_by, seen_from, seen, moves_at, state_at, step_of, step_with, take_by, take_one, run_by, run_with}
+use Rattle.aud_meaning.specs.Run.{picks, Turn, resting, closing, completing, withdrawing, serving, restarting, expiring, cancelling, acting, turn, only, each_or_one, serve_moves, end_moves, call_moves, ending_moves, acting_moves, turn_moves, moves_from, has_ended, moves_by, waiting_by, some_move, state_by, seen_from, seen, moves_at, state_at, step_of, step_with, take_by, take_one, run_by, run_with}
 
 -- Moves of the task of a number.
 
@@ -48,9 +48,13 @@ module _ (plan : Plan) (barrier : ℕ → Sight → Result Bool Raise) where
   call_of_task None entry n c = (refl, tt)
   call_of_task (Some task) entry n c = each_or_one_of _ n
 
+  ending_of : (x : Option (ℕ × ℕ)) (n : ℕ) (c : All Seen) → Of n (ending_moves plan barrier x n c)
+  ending_of None n c = end_of _ n c
+  ending_of (Some x) n c = call_of_task (Some x.0) x.1 n c
+
   acting_of : (next : Coming) (n : ℕ) (c : All Seen) → Of n (acting_moves plan barrier next n c)
   acting_of (simply w) n c = (refl, tt)
-  acting_of ending n c = end_of _ n c
+  acting_of ending n c = ending_of _ n c
   acting_of (selecting ones) n c = each_or_one_of _ n
   acting_of (calling task entry) n c = call_of_task task entry n c
   acting_of (starting object reading) n c = only_of _ n
@@ -61,6 +65,7 @@ module _ (plan : Plan) (barrier : ℕ → Sight → Result Bool Raise) where
   turn_of completing n c = (refl, tt)
   turn_of (withdrawing object) n c = only_of _ n
   turn_of (serving s) n c = served_of _ n
+  turn_of (restarting r) n c = only_of _ n
   turn_of (expiring delays) n c = each_of n _ (λ (d : OpenDelay). picked_task n d.alternative) _
   turn_of (cancelling id) n c = each_of n _ (λ time. refl) _
   turn_of (acting next) n c = acting_of next n c

@@ -1,6 +1,6 @@
 -- A program is stuck exactly where nothing can happen any more, however long the user waits.
 use Rattle.std.proofs.Common.{◌≡◌, ℕ, suc, ◌+◌, ◌≤◌, nat_le, List, [], ◌∷◌, ◌++◌, map, filter, Option, Some, None, Bool, true, false, Result, refl, sym, ap, ◌∙◌, subst, if◌then◌else◌, ◌⊎◌, inl, inr, arith}
-use Rattle.std.specs.Prelude.{◌&&◌}
+use Rattle.std.specs.Prelude.{◌&&◌, not}
 use Rattle.std.proofs.lemmas.Bool.{le-leb}
 use Rattle.aud_text.specs.declared.raise.Raise.{Raise}
 use Rattle.aud_typed.specs.Tree.{Plan}
@@ -18,7 +18,7 @@ use Rattle.aud_meaning.specs.Evaluation.{Sight}
 use Rattle.aud_meaning.specs.Control.{Coming, simply, ending, selecting, calling, starting, Seen, Controls}
 use Rattle.aud_meaning.specs.Parts.{call_of, in_action, is_queued, own_of, queue}
 use Rattle.aud_meaning.specs.Tasks.{barrier_of, eligible_if, eligible_from, entries_of}
-use Rattle.aud_meaning.specs.Run.{picks, own_move, Turn, resting, closing, completing, withdrawing, serving, expiring, cancelling, acting, is_bound, Deferred, at_once, usual, under_way, turn_by, turn, serve_moves, owner_idle, call_time_by, call_time, end_moves, call_moves, acting_moves, turn_moves, moves_from, has_ended, moves_by, turn_times, times_from, waiting_by, some_move, state_by, seen, moves_at, state_at, master_left_by, construct_left}
+use Rattle.aud_meaning.specs.Run.{picks, own_move, Turn, resting, closing, completing, withdrawing, serving, restarting, expiring, cancelling, acting, is_bound, Deferred, at_once, usual, under_way, turn_by, turn, serve_moves, owner_idle, call_time_by, call_time, end_moves, call_moves, ending_moves, acting_moves, turn_moves, moves_from, has_ended, moves_by, turn_times, times_from, waiting_by, some_move, state_by, seen, moves_at, state_at, master_left_by, construct_left, again_left}
 use Rattle.aud_meaning.specs.Why.Stuck.{waited, NothingCanHappen, StuckLaw}
 
 -- Lists with something in them.
@@ -130,7 +130,7 @@ module _ (plan : Plan) (barrier : ℕ → Sight → Result Bool Raise) (s : All 
   idle_same (owner.Object o) = refl
 
   call_time_same : (call : Call) → call_time plan barrier call later ≡ call_time plan barrier call s
-  call_time_same call = ap (λ b. if is_queued call.state && b then call_time_by plan barrier call.form else []) (idle_same call.owner)
+  call_time_same call = ap (λ b. if is_queued call.state && not call.stays && b then call_time_by plan barrier call.form else []) (idle_same call.owner)
 
   end_same : (master : Option ℕ) (n : ℕ) → end_moves plan barrier master n later ≡ end_moves plan barrier master n s
   end_same None n = refl
@@ -140,9 +140,13 @@ module _ (plan : Plan) (barrier : ℕ → Sight → Result Bool Raise) (s : All 
   call_same None entry n = refl
   call_same (Some task) entry n = refl
 
+  ending_same : (x : Option (ℕ × ℕ)) (n : ℕ) → ending_moves plan barrier x n later ≡ ending_moves plan barrier x n s
+  ending_same None n = end_same (master_left_by (construct_left (own_of n s))) n
+  ending_same (Some x) n = call_same (Some x.0) x.1 n
+
   acting_same : (next : Coming) (n : ℕ) → acting_moves plan barrier next n later ≡ acting_moves plan barrier next n s
   acting_same (simply w) n = refl
-  acting_same ending n = end_same (master_left_by (construct_left (own_of n s))) n
+  acting_same ending n = ending_same (again_left (own_of n s).pending (own_of n s).again (construct_left (own_of n s))) n
   acting_same (selecting ones) n = refl
   acting_same (calling task entry) n = call_same task entry n
   acting_same (starting object reading) n = refl
@@ -156,6 +160,7 @@ module _ (plan : Plan) (barrier : ℕ → Sight → Result Bool Raise) (s : All 
   turn_still closing n h = refl
   turn_still completing n h = refl
   turn_still (withdrawing object) n h = refl
+  turn_still (restarting r) n h = refl
   turn_still (serving v) n h = ap (λ r. serve_moves plan barrier r n) (eligible_same 1 (entries_of plan barrier v.object s) v.object)
   turn_still (expiring []) n h = refl
   turn_still (expiring (d ∷ ds)) n h = absurd (not_full _ _ h)
@@ -184,6 +189,7 @@ module _ (plan : Plan) (barrier : ℕ → Sight → Result Bool Raise) (s : All 
   turn_due completing n h = absurd h.0
   turn_due (withdrawing object) n h = absurd h.0
   turn_due (serving v) n h = absurd h.0
+  turn_due (restarting r) n h = absurd h.0
   turn_due (expiring []) n h = absurd h.0
   turn_due (expiring (d ∷ ds)) n h = kept_first (λ (e : OpenDelay). picks n e.alternative) (nat_le d.time t) d _ _ (le-leb d.time t h.1)
   turn_due (cancelling id) n h =

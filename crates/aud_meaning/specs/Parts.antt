@@ -59,12 +59,14 @@ nobody = record {
   waits = record { accepts = []; delays = []; terminate = false };
   call = 0;
   serving = None;
+  again = None;
+  restart = None;
   abnormal = false;
   withdraw = None;
 }
 
 abbrev pub no_call : Call
-no_call = record { caller = 0; owner = owner.Task 0; entry = 0; arrival = 0; values = []; backs = []; form = Plain; at = record { line = 0; col = 0 }; state = Done }
+no_call = record { caller = 0; owner = owner.Object 0; entry = 0; arrival = 0; values = []; unseen = []; backs = []; form = Plain; stays = false; at = record { line = 0; col = 0 }; state = Done }
 
 abbrev pub no_object : Object
 no_object = record { declaration = 0; display = []; actions = [] }

@@ -3,9 +3,11 @@ use Rattle.std.specs.Prelude.{ℕ, suc, ◌+◌, ◌-◌, ℤ, pos, List, [], �
 use Rattle.aud_text.specs.declared.place.Pos.{Pos}
 use Rattle.aud_text.specs.declared.raise.Raise.{Raise}
 use Rattle.aud_typed.specs.Tree as tree
-use Rattle.aud_typed.specs.Tree.{truth, ValueExpression, TaskName, DelayExpression, Reference, CallForm, plainly, conditionally, timed, Callee, of_task, of_object, Statement, sequence, declare, declare_array, declare_tasks, declare_object, activated, activate, null, assign, put, if_then, plain_loop, while_loop, for_loop, exit, return, return_value, raising, raising_again, block, procedure_call, own_entry_call, operation_call, entry_call, delay, accept, select, abort, Part, nothing, some, Doing, without_do, with_do, Alternatives, no_alternatives, accepting, delaying, terminating}
+use Rattle.aud_typed.specs.Tree.{truth, ValueExpression, TaskName, DelayExpression, Reference, CallForm, plainly, conditionally, timed, Callee, of_task, of_object, Statement, sequence, declare, declare_array, declare_tasks, declare_object, activated, activate, null, assign, put, if_then, plain_loop, while_loop, for_loop, exit, return, return_value, raising, raising_again, block, procedure_call, own_entry_call, operation_call, entry_call, delay, accept, select, abort, requeue, Part, nothing, some, Doing, without_do, with_do, Alternatives, no_alternatives, accepting, delaying, terminating}
 use Rattle.aud_meaning.specs.declared.state.StepKind.TheVariants as kind
+use Rattle.aud_meaning.specs.declared.state.Owner.{Owner}
 use Rattle.aud_meaning.specs.declared.state.Owner.TheVariants as owner
+use Rattle.aud_meaning.specs.declared.state.Again.{Again}
 use Rattle.aud_meaning.specs.declared.state.Pending.{Pending}
 use Rattle.aud_meaning.specs.declared.state.OpenAccept.{OpenAccept}
 use Rattle.aud_meaning.specs.declared.state.OpenDelay.{OpenDelay}
@@ -98,6 +100,7 @@ coming_statement plan (delay at e) s = simply kind.Delay
 coming_statement plan (accept at n d) s = simply kind.Accept
 coming_statement plan (select at offered p) s = selecting (open_or_none (guards_from 1 offered s))
 coming_statement plan (abort at ns) s = simply kind.Abort
+coming_statement plan (requeue at r) s = simply kind.Requeue
 
 -- Values that steps need.
 
@@ -166,7 +169,14 @@ asked_call at c (of_task t) s =
 asked_call at c (of_object v) s =
     or_raises (called at c.entry c.arguments c.form s.clock s.sight) at (λ call. asked.calls_entry (owner.Object (number_in v s.sight)) call)
 
--- a statement, with the loops that it leaves where it is an exit or a return
+abbrev pub again_at : Pos → tree.Requeue → Owner → Again
+again_at at r o = record { owner = o; entry = r.entry; with_formals = r.with_formals; with_abort = r.with_abort; at = at }
+
+abbrev pub asked_requeue : Pos → tree.Requeue → Callee → ℕ → Scene → Asked
+asked_requeue at r (of_task t) loops s = or_raises (task_named t s.sight) at (λ n. asked.requeues loops (again_at at r (owner.Task n)))
+asked_requeue at r (of_object v) loops s = asked.requeues loops (again_at at r (owner.Object (number_in v s.sight)))
+
+-- a statement, with the loops that it leaves where it is an exit, a return or a requeue
 abbrev pub asked_statement : Statement → ℕ → Scene → Asked
 asked_statement (declare at up_to e) loops s = or_raises_in_part (value_of e s.sight) at (λ z. asked.declares up_to z)
 asked_statement (declare_array at t n) loops s = asked.declares_array at t n
@@ -195,6 +205,7 @@ asked_statement (delay at e) loops s = or_raises (delay_of e s.sight) at (λ ms.
 asked_statement (accept at entry d) loops s = asked.accepts (record { alternative = 0; entry = entry; at = at; region = region_of d })
 asked_statement (select at offered p) loops s = or_raises (waits_of offered s.clock s.sight) at (λ w. asked.selects (has_else p) w at)
 asked_statement (abort at ts) loops s = or_raises (names_tasks ts s.sight) at (λ ns. asked.aborts ns at)
+asked_statement (requeue at r) loops s = asked_requeue at r r.callee loops s
 -- entered by no step
 asked_statement (sequence a b) loops s = asked.goes_on 0
 asked_statement (plain_loop a) loops s = asked.goes_on 0

@@ -1,4 +1,5 @@
 pub mod First
 pub mod Firsts
+pub mod FurtherOut
 pub mod Hiding
 pub mod Waiting

@@ -29,7 +29,8 @@ Symbol = List ℕ × Meaning
 
 -- a region of declarations (RM 8.1): its names in the order of their declarations, how many frames are further out than its own, the
 -- cells and names of variables, constants, tasks and objects in that, the tasks and the objects whose bodies are still to come, the entries
--- of the tasks that it declares, what its objects declare, and where it is directly in a task's body the cell with that task's own number
+-- of the tasks that it declares, what its objects declare, where it is directly in a task's body the cell with that task's own number, and
+-- whether it is that of an accept's formals
 pub record Region : Type 0 where
   pub symbols : List Symbol
   pub level : ℕ
@@ -40,10 +41,11 @@ pub record Region : Type 0 where
   pub entries : List EntryName
   pub parts : List ObjectPart
   pub own : Option Variable
+  pub accept : Bool
 
 -- a region with no names yet, at a level, which is in no task's body
 abbrev pub empty_region : ℕ → Region
-empty_region level = record { symbols = []; level = level; cells = 0; names = 0; awaited = []; objects = []; entries = []; parts = []; own = None }
+empty_region level = record { symbols = []; level = level; cells = 0; names = 0; awaited = []; objects = []; entries = []; parts = []; own = None; accept = false }
 
 -- what a region declares a name to be: the first symbol of that name decides
 abbrev pub named_in : List ℕ → List Symbol → Option Meaning
@@ -90,6 +92,10 @@ body_frame place = empty_region ((innermost place).level + 1)
 abbrev pub next_frame : Place → Region
 next_frame place = record (body_frame place) { own = (innermost place).own }
 
+-- the region of an accept's formals, in the same body
+abbrev pub accept_frame : Place → Region
+accept_frame place = record (next_frame place) { accept = true }
+
 abbrev pub in_frame : Place → Place
 in_frame place = place_in (next_frame place) place.regions
 
@@ -104,6 +110,18 @@ is_hidden name hidden = list_any (λ i. bytes_eq name i.name) hidden
 -- what a name stands for, where it is visible (RM 4.1, 8.3)
 abbrev pub visible : List ℕ → Place → Option Meaning
 visible name place = if is_hidden name place.hidden then None else declared name place.regions
+
+-- the regions from the one on, outwards, that declares what a name stands for
+abbrev pub declaring : List ℕ → List Region → List Region
+declaring name [] = []
+declaring name (r ∷ rs) = if is_some (named_in name r.symbols) then r ∷ rs else declaring name rs
+
+-- whether what they declare is within an accept, or within a task's body
+abbrev pub are_in_accept : List Region → Bool
+are_in_accept rs = list_any (λ r. r.accept) rs
+
+abbrev pub are_in_task : List Region → Bool
+are_in_task rs = list_any (λ r. is_some r.own) rs
 
 -- whether a declaration has taken a name, also one that has not ended: nothing further out is meant by it
 abbrev pub is_taken : List ℕ → Place → Bool
@@ -166,7 +184,7 @@ own_task level task_type = record { variable = own_cell level; task_type = task_
 
 -- the region of a task's body at a level: the cell with its own number has no name
 abbrev pub own_region : ℕ → ℕ → Region
-own_region level task_type = record { symbols = ([], Task (own_task level task_type)) ∷ []; level = level; cells = 1; names = 1; awaited = []; objects = []; entries = []; parts = []; own = Some (own_cell level) }
+own_region level task_type = record { symbols = ([], Task (own_task level task_type)) ∷ []; level = level; cells = 1; names = 1; awaited = []; objects = []; entries = []; parts = []; own = Some (own_cell level); accept = false }
 
 -- an entry in the region of its task's body (RM 8.1, 9.5.2); a name that this has already stays what it was
 abbrev pub with_entry : List ℕ → ℕ → Region → Region

@@ -2,7 +2,7 @@
 use Rattle.std.specs.Prelude.{Bool, true, false, not, ◌&&◌, List, [], ◌∷◌, Option, Some, None, if◌then◌else◌, ℕ}
 use Rattle.std.specs.Str.{bytes_eq}
 use Rattle.aud_text.specs.declared.place.Pos.{Pos}
-use Rattle.aud_text.specs.declared.refusal.Refusal.TheVariants.{NameNotDeclared, DeclaredTwice, WrongKindOfName, WrongType, WrongNumberOfArguments, NotAVariable, WrongNameAtEnd, NoMatchingBody, AcceptOrCountOutOfPlace, FormalsDoNotConform, ExitWithoutLoop, ReturnOutOfPlace, RaiseWithoutHandler, BadHandlerChoice, FunctionCallOutOfPlace, NumberTooLarge, TooManyDecimals, ChangeWithinFunction, ParameterInBarrier, NotAnEntry}
+use Rattle.aud_text.specs.declared.refusal.Refusal.TheVariants.{NameNotDeclared, DeclaredTwice, WrongKindOfName, WrongType, WrongNumberOfArguments, NotAVariable, WrongNameAtEnd, NoMatchingBody, AcceptOrCountOutOfPlace, FormalsDoNotConform, ExitWithoutLoop, ReturnOutOfPlace, RaiseWithoutHandler, BadHandlerChoice, FunctionCallOutOfPlace, NumberTooLarge, TooManyDecimals, ChangeWithinFunction, ParameterInBarrier, NotAnEntry, RequeueOutOfPlace, ExternalRequeue, TargetDeclaredInside}
 use Rattle.aud_syntax.specs.declared.tree.Ident.{Ident}
 use Rattle.aud_syntax.specs.declared.tree.Mode.{Mode}
 use Rattle.aud_syntax.specs.declared.tree.Mode.TheVariants.{Unstated, In, Out, InOut}
@@ -116,6 +116,12 @@ conform [] [] = true
 conform (p ∷ ps) (q ∷ qs) = (bytes_eq p.name q.name && same_parameter p.parameter q.parameter) && conform ps qs
 conform _ _ = false
 
+-- the same modes and subtypes in order, whatever the names are
+abbrev pub same_parameters : List NamedParameter → List NamedParameter → Bool
+same_parameters [] [] = true
+same_parameters (p ∷ ps) (q ∷ qs) = same_parameter p.parameter q.parameter && same_parameters ps qs
+same_parameters _ _ = false
+
 -- the formals of an accept or a body conform to those of its declaration (RM 6.3.1, 9.5.2(14)); at its name
 abbrev pub formals_conform : Bool → Pos → List Fault
 formals_conform good at = unless good (record { at = at; refusal = FormalsDoNotConform })
@@ -156,6 +162,19 @@ no_change_within_function good at = unless good (record { at = at; refusal = Cha
 abbrev pub parameter_in_barrier : Pos → List Fault
 parameter_in_barrier at = record { at = at; refusal = ParameterInBarrier } ∷ []
 
--- what a timed or conditional call calls is an entry (RM 9.7.2, 9.7.3); at the name
+-- what a timed or conditional call calls, and where a call is made again, is an entry (RM 9.7.2, 9.7.3, 9.5.4(3)); at the name
 abbrev pub not_an_entry : Pos → List Fault
 not_an_entry at = record { at = at; refusal = NotAnEntry } ∷ []
+
+-- a requeue stands in an accept or an entry body, with no body or accept between (RM 9.5.4(4)); at `requeue`
+abbrev pub requeue_in_place : Bool → Pos → List Fault
+requeue_in_place good at = unless good (record { at = at; refusal = RequeueOutOfPlace })
+
+-- an entry body makes its call again on entries of its own object (profile); at the name
+abbrev pub in_own_object : Bool → Pos → List Fault
+in_own_object good at = unless good (record { at = at; refusal = ExternalRequeue })
+
+-- the target's task or object is not declared within an accept that encloses the requeue, and for a requeue in an accept the target's
+-- object is not declared within a task's body (RM 9.5.4(6), profile); at the name
+abbrev pub declared_outside : Bool → Pos → List Fault
+declared_outside good at = unless good (record { at = at; refusal = TargetDeclaredInside })

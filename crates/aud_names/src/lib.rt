@@ -5,6 +5,7 @@ pub mod array;
 pub mod awaited;
 pub mod behind;
 pub mod entries;
+mod further_out;
 mod hidden;
 pub mod laws;
 pub mod names;

@@ -4,13 +4,14 @@ ghost use Rattle.std.specs.Prelude.{◌≡◌, ◌∷◌, ◌&&◌, not, [], IfO
 ghost use Rattle.std.specs.Option.{option_copied};
 ghost use Rattle.std.specs.Str.{bytes_eq};
 ghost use Rattle.indexmap.specs.IndexMap.{insert_entry};
-ghost use Rattle.aud_names.specs.Names.{Place as Plain, empty_region, named_in, predefined, declared, hiding, is_hidden, is_taken, own_hidden, with_own, visible, library, outermost, innermost, body_frame, next_frame, awaited_task, body_come, own_task, own_region, with_entry, with_entries, task_region, running, has_cell, is_declared, is_in_own_body, named_inside, entry_named, same_cell, is_cell_of, is_own, is_inside, is_in_function, is_around, is_countable};
+ghost use Rattle.aud_names.specs.Names.{Place as Plain, empty_region, named_in, predefined, declared, hiding, is_hidden, is_taken, own_hidden, with_own, visible, library, outermost, innermost, body_frame, next_frame, accept_frame, declaring, are_in_accept, are_in_task, awaited_task, body_come, own_task, own_region, with_entry, with_entries, task_region, running, has_cell, is_declared, is_in_own_body, named_inside, entry_named, same_cell, is_cell_of, is_own, is_inside, is_in_function, is_around, is_countable};
 ghost use Rattle.aud_names.specs.Objects.{awaited_object, object_come, part_named};
 ghost use Rattle.aud_names.specs.Ties.Regions.{plain_region, plain_regions, plain_place, names_in, hidden_names};
 
 use crate::awaited::{Awaited, AwaitedObject, index_of, index_of_object};
 use crate::behind::{Made, both};
 use crate::entries::{EntryName, entry_in};
+use crate::further_out::{are_in_accept, are_in_task, is_from_accept, is_from_task};
 use crate::hidden::Hidden;
 use crate::parts::{ObjectPart, Part, part_in};
 use crate::table::listed;
@@ -178,7 +179,8 @@ pub fn insert(symbols: &mut Symbols, name: Name, meaning: Meaning) -> Made<()>
 /// A region of declarations (RM 8.1): its names, how many frames are further out than its own, the cells
 /// and the names of variables, constants, tasks and objects that its frame has so far, the tasks and the objects whose
 /// bodies are still to come, the entries of the tasks that it declares, what its objects declare, where it is
-/// directly in a task's body the cell with that task's own number, and what allocates them.
+/// directly in a task's body the cell with that task's own number, whether it is that of an accept's formals, and what
+/// allocates them.
 pub struct Region {
     pub alloc: Global,
     pub symbols: Symbols,
@@ -190,6 +192,7 @@ pub struct Region {
     pub entries: Vec<EntryName>,
     pub parts: Vec<ObjectPart>,
     pub own: Option<Variable>,
+    pub accept: bool,
 }
 
 impl Drop for Region {
@@ -205,6 +208,7 @@ impl Drop for Region {
             entries,
             parts,
             own: _,
+            accept: _,
         } = self;
         drop(symbols);
         drop(awaited);
@@ -230,6 +234,7 @@ impl Region {
             entries: Vec::new(alloc),
             parts: Vec::new(alloc),
             own: None,
+            accept: false,
         }
     }
 
@@ -467,6 +472,15 @@ impl<'a> Scope<'a> {
         Ok(region)
     }
 
+    /// The region of an accept's formals, in the same body (RM 9.5.2).
+    pub fn accept_frame(&self) -> Made<Region>
+        ensures { IfOk result (λ region. plain_region region ≡ accept_frame self.now) }
+    {
+        let mut region = self.frame()?;
+        region.accept = true;
+        Ok(region)
+    }
+
     // That of a body of its own (RM 6.3).
     fn body_frame(&self) -> Made<Region>
         ensures { IfOk result (λ region. plain_region region ≡ body_frame self.now) }
@@ -538,6 +552,26 @@ impl<'a> Scope<'a> {
             Some(part) => Some(part),
             None => part_named(self.outer, object, name),
         }
+    }
+
+    /// Whether what a name stands for is declared within an accept that is around the place (RM 9.5.4(6)).
+    pub fn is_from_accept(&self, name: &Name) -> bool
+        ensures { result ≡ are_in_accept (declaring name.now self.now.regions) }
+    {
+        if self.innermost.symbols.contains_key(name) {
+            return self.innermost.accept || are_in_accept(self.outer);
+        }
+        is_from_accept(self.outer, name)
+    }
+
+    /// Whether it is declared within a task's body (RM 9.5.4(6)).
+    pub fn is_from_task(&self, name: &Name) -> bool
+        ensures { result ≡ are_in_task (declaring name.now self.now.regions) }
+    {
+        if self.innermost.symbols.contains_key(name) {
+            return self.innermost.own.is_some() || are_in_task(self.outer);
+        }
+        is_from_task(self.outer, name)
     }
 
     /// Whether the calls of an entry may be counted at the place (RM 9.9(4)).

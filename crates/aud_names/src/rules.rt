@@ -3,7 +3,7 @@
 ghost use Rattle.std.specs.Prelude.{◌≡◌, not};
 ghost use Rattle.aud_fault.specs.Least.{noted};
 ghost use Rattle.aud_names.specs.Names.{is_declared};
-ghost use Rattle.aud_names.specs.Rules.{base_of_subtype, base_asked, name_not_declared, declared_once, wrong_kind_of_name, fits, right_type, wrong_number_of_arguments, not_a_variable, right_name_at_end, right_label_at_end, no_matching_body, accept_or_count_in_place, same_mode, agree, same_parameter, conform, formals_conform, exit_in_loop, return_in_place, raise_in_handler, good_choice, function_call_out_of_place, number_too_large, too_many_decimals, no_change_within_function, parameter_in_barrier, not_an_entry};
+ghost use Rattle.aud_names.specs.Rules.{base_of_subtype, base_asked, name_not_declared, declared_once, wrong_kind_of_name, fits, right_type, wrong_number_of_arguments, not_a_variable, right_name_at_end, right_label_at_end, no_matching_body, accept_or_count_in_place, same_mode, agree, same_parameter, conform, same_parameters, formals_conform, exit_in_loop, return_in_place, raise_in_handler, good_choice, function_call_out_of_place, number_too_large, too_many_decimals, no_change_within_function, parameter_in_barrier, not_an_entry, requeue_in_place, in_own_object, declared_outside};
 
 use crate::names::{NamedParameter, Parameter, Symbols};
 use aud_fault::fault::Least;
@@ -199,6 +199,28 @@ pub fn conform(declared: &[NamedParameter], given: &[NamedParameter]) -> bool
     }
 }
 
+/// Whether formals have the same modes and subtypes in order as others, whatever their names are (RM 9.5.4(3)).
+pub fn same_parameters(target: &[NamedParameter], given: &[NamedParameter]) -> bool
+    ensures { result ≡ same_parameters target.now given.now }
+{
+    let mut left = target;
+    let mut right = given;
+    while let Some((first, others)) = left.split_first() {
+        let Some((second, more)) = right.split_first() else {
+            return false;
+        };
+        if !same_parameter(first.parameter, second.parameter) {
+            return false;
+        }
+        left = others;
+        right = more;
+    }
+    match right.first() {
+        None => true,
+        Some(_) => false,
+    }
+}
+
 /// The formals of an accept conform to those of its entry (RM 9.5.2(14)).
 pub fn formals_conform(good: bool, at: Pos, faults: &mut Least)
     ensures { faults.new ≡ noted faults.old (formals_conform good at) }
@@ -281,9 +303,37 @@ pub fn parameter_in_barrier(at: Pos, faults: &mut Least)
     faults.note(at, Refusal::ParameterInBarrier);
 }
 
-/// What a timed or conditional call calls is an entry (RM 9.7.2, 9.7.3).
+/// What a timed or conditional call calls, and where a call is made again, is an entry (RM 9.7.2, 9.7.3, 9.5.4(3)).
 pub fn not_an_entry(at: Pos, faults: &mut Least)
     ensures { faults.new ≡ noted faults.old (not_an_entry at) }
 {
     faults.note(at, Refusal::NotAnEntry);
+}
+
+/// A requeue stands in an accept or an entry body, with no body or accept between (RM 9.5.4(4)).
+pub fn requeue_in_place(good: bool, at: Pos, faults: &mut Least)
+    ensures { faults.new ≡ noted faults.old (requeue_in_place good at) }
+{
+    if !good {
+        faults.note(at, Refusal::RequeueOutOfPlace);
+    }
+}
+
+/// An entry body makes its call again on entries of its own object (profile).
+pub fn in_own_object(good: bool, at: Pos, faults: &mut Least)
+    ensures { faults.new ≡ noted faults.old (in_own_object good at) }
+{
+    if !good {
+        faults.note(at, Refusal::ExternalRequeue);
+    }
+}
+
+/// The target's task or object is not declared within an accept around the requeue, nor a requeue's object in an accept within
+/// a task's body (RM 9.5.4(6), profile).
+pub fn declared_outside(good: bool, at: Pos, faults: &mut Least)
+    ensures { faults.new ≡ noted faults.old (declared_outside good at) }
+{
+    if !good {
+        faults.note(at, Refusal::TargetDeclaredInside);
+    }
 }

@@ -6,7 +6,7 @@ use Rattle.aud_text.specs.declared.place.Pos.{Pos}
 use Rattle.aud_text.specs.declared.raise.Raise.{Raise}
 use Rattle.aud_typed.specs.declared.program.Variable.{Variable}
 use Rattle.aud_typed.specs.Tree as tree
-use Rattle.aud_typed.specs.Tree.{truth, ValueExpression, TaskName, DelayExpression, Reference, CallForm, plainly, conditionally, timed, Callee, of_task, of_object, Argument, by_value, by_copy, Statement, sequence, declare, declare_array, declare_tasks, declare_object, activated, activate, null, assign, put, if_then, plain_loop, while_loop, for_loop, exit, return, return_value, raising, raising_again, block, procedure_call, own_entry_call, operation_call, entry_call, delay, accept, select, abort, Doing, Alternatives, no_alternatives, accepting, delaying, terminating}
+use Rattle.aud_typed.specs.Tree.{truth, ValueExpression, TaskName, Reference, CallForm, plainly, conditionally, timed, Callee, of_task, of_object, Argument, by_value, by_copy, Statement, sequence, declare, declare_array, declare_tasks, declare_object, activated, activate, null, assign, put, if_then, plain_loop, while_loop, for_loop, exit, return, return_value, raising, raising_again, block, procedure_call, own_entry_call, operation_call, entry_call, delay, accept, select, abort, Alternatives, no_alternatives, accepting, delaying, terminating, requeue}
 use Rattle.aud_meaning.specs.declared.state.Owner.TheVariants as owner
 use Rattle.aud_meaning.specs.declared.state.Pending.{Pending}
 use Rattle.aud_meaning.specs.declared.state.OpenDelay.{OpenDelay}
@@ -14,11 +14,11 @@ use Rattle.aud_meaning.specs.declared.state.Form.{Form}
 use Rattle.aud_meaning.specs.declared.state.Form.TheVariants.{TimedTo}
 use Rattle.aud_meaning.specs.Configuration.{Frame, Target, Waits, Item, Do, InLoop, InFor, Begin, Ends, Leaving}
 use Rattle.aud_meaning.specs.Evaluation.{Sight, cell, number_in, with_value, evaluated, found, subtype_of, task_named, decided, value_of, delay_of, target_at, target_of, option_target, Passed, copied_in, one_more_passed, passed_from, passed}
-use Rattle.aud_meaning.specs.Control.{Coming, selecting, calling, starting, Called, Asked, Scene, Controls}
+use Rattle.aud_meaning.specs.Control.{selecting, calling, starting, Called, Asked, Scene}
 use Rattle.aud_meaning.specs.Control as asked
 use Rattle.aud_meaning.specs.Parts as parts
 use Rattle.aud_meaning.specs.Items.{out_by, loops_out}
-use Rattle.aud_meaning.specs.Statements.{region_of, if_open, guards_from, delay_expression, timed_from, waits_of, open_or_none, task_or_none, coming_call, coming_statement, both, Stored, stored, components, form_of, called, names_tasks, Entered, entered_with, or_raises, or_raises_in_part, branch, has_else, asked_call, asked_statement, asked_item, asks, coming_item, coming, controls}
+use Rattle.aud_meaning.specs.Statements.{region_of, if_open, guards_from, delay_expression, timed_from, waits_of, open_or_none, task_or_none, coming_call, coming_statement, both, Stored, stored, components, form_of, called, names_tasks, Entered, entered_with, or_raises, or_raises_in_part, branch, has_else, asked_call, asked_statement, asked_item, asks, coming_item, coming, controls, again_at, asked_requeue}
 use Rattle.aud_over.specs.Looks.{SeesSame, Looks, with_frames}
 use Rattle.aud_over.proofs.Evaluating.{Alike, alike, alike_extended, extended, then_same, evaluated_same, found_same, named_same, decided_same, value_same, text_same, delay_same}
 
@@ -149,6 +149,7 @@ module _ (s : Sight) (fs : List Frame) (h : SeesSame s fs) where
   coming_same plan (delay at e) = refl
   coming_same plan (accept at n d) = refl
   coming_same plan (abort at ns) = refl
+  coming_same plan (requeue at r) = refl
 
 -- Asked in a scene.
 
@@ -169,6 +170,10 @@ module _ (s : Scene) (fs : List Frame) (h : SeesSame s.sight fs) where
       or_raises_same (called at c.entry c.arguments c.form s.clock s.sight) (called at c.entry c.arguments c.form s.clock there.sight) at (λ call. asked.calls_entry (owner.Object (number_in v s.sight)) call) (λ call. asked.calls_entry (owner.Object (number_in v there.sight)) call)
       (called_same s.sight fs h at c.entry c.arguments c.form s.clock)
       (λ call. ap (λ z. asked.calls_entry (owner.Object (nat_abs z)) call) (b.cells v))
+
+  requeue_there : (at : Pos) (r : tree.Requeue) (o : Callee) (loops : ℕ) → asked_requeue at r o loops s ≡ asked_requeue at r o loops there
+  requeue_there at r (of_task n) loops = ap (λ x. or_raises x at (λ i. asked.requeues loops (again_at at r (owner.Task i)))) (named_same s.sight there.sight b n)
+  requeue_there at r (of_object v) loops = ap (λ z. asked.requeues loops (again_at at r (owner.Object (nat_abs z)))) (b.cells v)
 
   pub asked_same : (x : Statement) (loops : ℕ) → asked_statement x loops s ≡ asked_statement x loops there
   asked_same (declare at up_to e) loops = ap (λ x. or_raises_in_part x at (λ z. asked.declares up_to z)) (value_same s.sight there.sight b e)
@@ -199,6 +204,7 @@ module _ (s : Scene) (fs : List Frame) (h : SeesSame s.sight fs) where
   asked_same (accept at entry d) loops = refl
   asked_same (select at offered p) loops = ap (λ x. or_raises x at (λ w. asked.selects (has_else p) w at)) (waits_same s.sight fs h offered s.clock)
   asked_same (abort at ts) loops = ap (λ x. or_raises x at (λ ns. asked.aborts ns at)) (names_same s.sight fs h ts)
+  asked_same (requeue at r) loops = requeue_there at r r.callee loops
   asked_same (sequence x y) loops = refl
   asked_same (plain_loop x) loops = refl
 

@@ -9,6 +9,7 @@ use Rattle.aud_over.specs.Over.{with_kept}
 use Rattle.aud_over.specs.Looks.{SeesSame}
 use Rattle.aud_over.proofs.Frames.{Agree, agree_at, agree_length}
 use Rattle.aud_over.proofs.Calls.{SameCalls, EachOf, same_changed, same_behind, queue_same}
+use Rattle.aud_meaning.specs.declared.state.Restart.{Restart}
 
 -- which frames and calls are the same: all with these numbers or higher ones, and the first frame
 pub record Kept : Type 1 where
@@ -37,8 +38,13 @@ abbrev pub NamesAll : Kept → List Opened → Type 0
 NamesAll p [] = Unit {0}
 NamesAll p (o ∷ os) = NamesOpened p o × NamesAll p os
 
+-- the call that it makes again
+abbrev pub KeepsRestart : (ℕ → Type 0) → Option Restart → Type 0
+KeepsRestart kept None = Unit {0}
+KeepsRestart kept (Some r) = kept r.call
+
 abbrev pub Names : Kept → Own → Type 0
-Names p own = EachOf p.named own.display × NamesAll p own.opened
+Names p own = EachOf p.named own.display × NamesAll p own.opened × KeepsRestart p.kept own.restart
 
 abbrev pub TasksName : {C : Type 0} → Kept → List (TaskAt C) → Type 0
 TasksName p [] = Unit {0}
@@ -89,7 +95,7 @@ module _ (p : Kept) where
   -- What is named by parts.
 
   pub nobody_names : Names p nobody
-  nobody_names = (tt, tt)
+  nobody_names = (tt, tt, tt)
 
   pub own_names : {C : Type 0} (ts : List (TaskAt C)) (n : ℕ) → TasksName p ts → Names p (slice_index_or (owns ts) n nobody)
   own_names [] n h = nobody_names

@@ -11,12 +11,12 @@ use Rattle.aud_meaning.specs.declared.state.Owner.TheVariants as owner
 use Rattle.aud_meaning.specs.declared.state.Pending.{Pending}
 use Rattle.aud_meaning.specs.Configuration.{Frame, Target}
 use Rattle.aud_meaning.specs.Evaluation.{Facts, Sight, cell, number_in, cell_of, truth_of, unary_of, binary_of, related, logical_of, in_range, element_at, image_of_truth, target_at}
-use Rattle.aud_meaning.specs.Control.{Coming, starting, Asked, Scene, Controls}
+use Rattle.aud_meaning.specs.Control.{starting, Scene}
 use Rattle.aud_meaning.specs.Control as asked
 use Rattle.aud_meaning.specs.Parts.{unit_of}
 use Rattle.aud_code.specs.Places.{Spot, loops_of}
-use Rattle.aud_code.specs.Instruction.{Instruction, Push, Load, LoadElement, OnOne, OnTwo, Count, Check, Cell, PushTruth, Truth, Negate, Relate, Compare, Combine, PassIfFalse, PassIfTrue, IsCallable, IsTerminated, Find, FindElement, LoadFound, Pass, PassCopy, AppendText, AppendImage, AppendTruth, AppendNewLine, Name, Milliseconds, Seconds, BeginObject, Component, OpensAccept, OpensDelay, OpensTerminate, Mark, PassUnlessNext, SetTime, Ending, Declare, DeclareArray, DeclareTasks, DeclareObject, Activated, Activate, Null, Assign, Put, If, While, Loop, Exit, Return, ReturnValue, Raising, RaisingAgain, Block, Proc, OwnCall, Operation, CallTask, CallObject, Delay, Accept, Select, Abort, Operands, no_operands, Ended, Reached, Marked, Raised, Lost}
-use Rattle.aud_code.specs.Eval.{seen_in, Then, on_result, on_one, on_two, held, seconds_of, one_cell_more, opens_accept, opens_delay, opens_terminate, is_next, later, act, eval, newest, passed_in, called_with, asked_end, asked_ended, coming_end}
+use Rattle.aud_code.specs.Instruction.{Instruction, Push, Load, LoadElement, OnOne, OnTwo, Count, Check, Cell, PushTruth, Truth, Negate, Relate, Compare, Combine, PassIfFalse, PassIfTrue, IsCallable, IsTerminated, Find, FindElement, LoadFound, Pass, PassCopy, AppendText, AppendImage, AppendTruth, AppendNewLine, Name, Milliseconds, Seconds, BeginObject, Component, OpensAccept, OpensDelay, OpensTerminate, Mark, PassUnlessNext, SetTime, Ending, Declare, DeclareArray, DeclareTasks, DeclareObject, Activated, Activate, Null, Assign, Put, If, While, Loop, Exit, Return, ReturnValue, Raising, RaisingAgain, Block, Proc, OwnCall, Operation, CallTask, CallObject, Delay, Accept, Select, Abort, Operands, no_operands, Ended, Reached, Marked, Raised, Lost, RequeueTask, RequeueObject}
+use Rattle.aud_code.specs.Eval.{seen_in, Then, on_result, on_one, on_two, held, seconds_of, one_cell_more, opens_accept, opens_delay, opens_terminate, is_next, later, act, eval, newest, passed_in, called_with, asked_end, asked_ended, coming_end, again_on}
 use Rattle.aud_code.specs.Flat.{Last, Does, Continues, Guards, Ends, Leaves, Flat, asked_last, coming_last, no_scene, decided_by, instructions_at, end_at, asked_at, coming_at, flat_controls}
 use Rattle.aud_over.specs.Looks.{SeesSame, Looks, with_frames}
 use Rattle.aud_over.proofs.Evaluating.{Alike, alike, alike_extended, behind_same, at_levels, IsSame, first_same, new_same}
@@ -174,6 +174,8 @@ module _ (stops : Bool) (s : Scene) (fs : List Frame) (h : SeesSame s.sight fs) 
   end_same (Accept entry region) loops at o = refl
   end_same (Select has_else) loops at o = refl
   end_same Abort loops at o = refl
+  end_same (RequeueTask entry formals abort) loops at o = refl
+  end_same (RequeueObject v entry formals abort) loops at o = ap (λ n. asked.requeues loops (again_on (owner.Object n) entry formals abort at)) (v_same v)
 
   ended_same : (e : Ending) (loops : ℕ) (at : Pos) (x : Ended) → asked_ended e loops at s x ≡ asked_ended e loops at there x
   ended_same e loops at (Reached o) = end_same e loops at o
@@ -220,6 +222,8 @@ module _ (plan : Plan) (s : Sight) (fs : List Frame) (h : SeesSame s fs) where
   coming_end_same (Accept entry region) x = refl
   coming_end_same (Select has_else) x = refl
   coming_end_same Abort x = refl
+  coming_end_same (RequeueTask entry formals abort) x = refl
+  coming_end_same (RequeueObject v entry formals abort) x = refl
 
   coming_last_same : (l : Last) (x : Ended) → coming_last plan l s x ≡ coming_last plan l (with_frames fs s) x
   coming_last_same (Does e) x = coming_end_same e x

@@ -1,5 +1,5 @@
 -- What a step does to all tasks keeps programs the same but for what nothing names: procedures, rendezvous, objects, abort.
-use Rattle.std.proofs.Common.{◌≡◌, ℕ, ◌+◌, ◌≤◌, ℤ, List, [], ◌∷◌, length, slice_index_or, Option, Some, None, Bool, true, false, refl, ap, ◌∙◌, subst}
+use Rattle.std.proofs.Common.{◌≡◌, ℕ, ◌+◌, ◌≤◌, ℤ, List, [], ◌∷◌, length, slice_index_or, Option, Some, None, Bool, true, false, refl, ap, ◌∙◌, subst, ◌++◌}
 use Rattle.std.specs.Prelude.{if◌then◌else◌, take, filter, not, ◌&&◌, nat_eq, Result, is_none}
 use Rattle.aud_text.specs.declared.place.Pos.{Pos}
 use Rattle.aud_text.specs.declared.raise.Raise.{Raise}
@@ -14,7 +14,7 @@ use Rattle.aud_meaning.specs.Configuration.{Frame, Target, Returning, Purpose, f
 use Rattle.aud_meaning.specs.Evaluation.{Sight, Passed}
 use Rattle.aud_meaning.specs.Control.{Moved, takes_part, does_accept, enters_body}
 use Rattle.aud_meaning.specs.Effects.{opens, pends, closed, has_room, copied_back, CopiedBack, with_result}
-use Rattle.aud_meaning.specs.Parts.{succeeds, fails, Waiting, arrives, alternative_of, blocks, call_number, call_of, in_action, is_callable, new_call, on_call, on_control, on_own, on_task, open_alternatives, own_of, queue, raised_at, runs, stands_at_call, with_frames, alone, unit_of}
+use Rattle.aud_meaning.specs.Parts.{succeeds, fails, Waiting, arrives, alternative_of, blocks, call_number, call_of, in_action, is_callable, new_call, on_call, on_control, on_own, on_task, open_alternatives, own_of, queue, raised_at, runs, stands_at_call, with_frames, alone, unit_of, cancels}
 use Rattle.aud_meaning.specs.Tasks as effect
 use Rattle.aud_over.specs.Over.{with_kept}
 use Rattle.aud_over.specs.Looks.{SeesSame}
@@ -23,7 +23,11 @@ use Rattle.aud_over.proofs.Frames.{Agree, agree_at}
 use Rattle.aud_over.proofs.Calls.{EachWaiting, same_length, queue_same, queue_kept}
 use Rattle.aud_over.proofs.Beside.{Kept, MayHave, Beside, each_taken, beside, at_kept, if_beside, own_names, task_kept, own_kept, control_kept, call_kept, call_added, frames_kept, alone_kept, BesideOne, one_with, beside_one, at_one}
 use Rattle.aud_over.proofs.Effects.{BackSame, copied_same, result_same, opens_one, names_closed}
-use Rattle.aud_over.proofs.Tasks.{raised_kept, arrives_kept, at_call_kept, call_same, end_call_kept, close_kept, opens_for_kept}
+use Rattle.aud_over.proofs.Tasks.{raised_kept, arrives_kept, at_call_kept, call_same, end_call_kept, close_kept, opens_for_kept, cancels_kept}
+use Rattle.aud_meaning.specs.declared.state.Again.{Again}
+use Rattle.aud_meaning.specs.declared.state.Owner.{Owner}
+use Rattle.aud_meaning.specs.declared.state.Owner.TheVariants as owner
+use Rattle.aud_typed.specs.declared.program.Exception.TheVariants.{Predefined}
 
 -- barriers look at variables only through what is seen
 abbrev pub BarrierLooks : (ℕ → Sight → Result Bool Raise) → Type 0
@@ -118,15 +122,10 @@ module _ (p : Kept) (plan : Plan) (barrier : ℕ → Sight → Result Bool Raise
       ap (λ (x : Call). take (length x.values) (slice_index_or c.shared.frames frame [])) (call_same p id c fs cs m k)
       ∙ ap (λ cells. take (length (call_of id (with_kept fs cs c)).values) cells) (agree_at p.named c.shared.frames fs m.frames frame f)
 
-  pub accept_end_kept : (pending : Option Pending) (id : ℕ) (o : Opened) (n : ℕ) (c d : All Moved) → p.named o.frame → p.kept id → Beside p c d → Beside p (effect.at_accept_end noted plan barrier pending id o n c) (effect.at_accept_end noted plan barrier pending id o n d)
-  accept_end_kept None id o n c d f k r = at_kept p (effect.at_accept_end noted plan barrier None id o n) c d r (λ fs cs m.
-      let e : All Moved = with_kept fs cs c in
-      let values = effect.formals_now noted plan barrier o.frame (length (call_of id c).values) c in
-      subst (λ vs. Beside p (effect.end_call noted plan barrier (succeeds values) id (on_own n closed c)) (effect.end_call noted plan barrier (succeeds vs) id (on_own n closed e))) (formals_same o.frame id c fs cs m f k)
-      (end_call_kept p plan barrier (succeeds values) id (on_own n closed c) (on_own n closed e) k (closed_kept n c e (beside p c fs cs m))))
-  accept_end_kept (Some x) id o n c d f k r =
-      let g : Own → Own = λ own. pends x.exception o.at (closed own) in
-      end_call_kept p plan barrier (fails x.exception) id (on_own n g c) (on_own n g d) k (own_kept p n g c d (λ own h. names_closed p own h) r)
+  pub present_same : (frame id : ℕ) (c : All Moved) (fs : List Frame) (cs : List Call) → MayHave p c fs cs → p.named frame → p.kept id → effect.present_values noted plan barrier id frame c ≡ effect.present_values noted plan barrier id frame (with_kept fs cs c)
+  present_same frame id c fs cs m f k =
+      ap (λ vs. vs ++ (call_of id c).unseen) (formals_same frame id c fs cs m f k)
+      ∙ ap (λ (x : Call). effect.formals_now noted plan barrier frame (length (call_of id (with_kept fs cs c)).values) (with_kept fs cs c) ++ x.unseen) (call_same p id c fs cs m k)
 
   abbrev accepted_with : Call → ℕ → OpenAccept → ℕ → ℕ → All Moved → All Moved
   accepted_with call region a id n c =
@@ -148,8 +147,8 @@ module _ (p : Kept) (plan : Plan) (barrier : ℕ → Sight → Result Bool Raise
   rendezvous_by_kept None a id n c d k r = at_kept p (effect.rendezvous_by noted plan barrier None a id n) c d r (λ fs cs m.
       let e : All Moved = with_kept fs cs c in
       let f = λ (x : All Moved). on_task n (λ t. record { control = takes_part a.alternative t.control; own = runs t.own }) x in
-      subst (λ call. Beside p (effect.rendezvous_by noted plan barrier None a id n c) (effect.end_call noted plan barrier (succeeds call.values) id (f e))) (call_same p id c fs cs m k)
-      (end_call_kept p plan barrier (succeeds (call_of id c).values) id (f c) (f e) k
+      subst (λ call. Beside p (effect.rendezvous_by noted plan barrier None a id n c) (effect.end_call noted plan barrier (succeeds (call.values ++ call.unseen)) id (f e))) (call_same p id c fs cs m k)
+      (end_call_kept p plan barrier (succeeds ((call_of id c).values ++ (call_of id c).unseen)) id (f c) (f e) k
       (task_kept p n (λ t. record { control = takes_part a.alternative t.control; own = runs t.own }) c e (λ t h. h) (beside p c fs cs m))))
   rendezvous_by_kept (Some region) a id n c d k r = at_kept p (effect.rendezvous_by noted plan barrier (Some region) a id n) c d r (λ fs cs m.
       let e : All Moved = with_kept fs cs c in
@@ -160,6 +159,58 @@ module _ (p : Kept) (plan : Plan) (barrier : ℕ → Sight → Result Bool Raise
   rendezvous_kept a id n c d k r =
       let f : Call → Call = λ call. record call { state = Selected } in
       rendezvous_by_kept a.region a id n (on_call id f c) (on_call id f d) k (call_kept p id f c d k r)
+
+  -- Requeue.
+
+  made_again_kept : (alternative : Option ℕ) (ones : List OpenAccept) (id task : ℕ) (c d : All Moved) → p.kept id → Beside p c d → Beside p (effect.made_again noted plan barrier alternative ones id task c) (effect.made_again noted plan barrier alternative ones id task d)
+  made_again_kept alternative [] id task c d k r = arrives_kept p id c d k r
+  made_again_kept alternative (a ∷ more) id task c d k r = rendezvous_kept (alternative_of alternative a (a ∷ more)) id task c d k r
+
+  abbrev again_with : Option ℕ → Call → ℕ → ℕ → All Moved → All Moved
+  again_with alternative call task id c =
+      if effect.is_lost noted plan barrier call c then cancels id c
+      else if is_callable (own_of task c) then effect.made_again noted plan barrier alternative (open_alternatives (own_of task c) call.entry) id task (on_call id (effect.called_of noted plan barrier (owner.Task task)) c)
+      else effect.end_call noted plan barrier (fails (Predefined Tasking)) id c
+
+  again_with_kept : (alternative : Option ℕ) (call : Call) (task id : ℕ) (c d : All Moved) → p.kept id → Beside p c d → Beside p (again_with alternative call task id c) (again_with alternative call task id d)
+  again_with_kept alternative call task id c d k r = at_kept p (again_with alternative call task id) c d r (λ fs cs m.
+      let e : All Moved = with_kept fs cs c in
+      let s : Beside p c e = beside p c fs cs m in
+      let f = effect.called_of noted plan barrier (owner.Task task) in
+      let ones = open_alternatives (own_of task c) call.entry in
+      let g = λ (x : All Moved). effect.made_again noted plan barrier alternative ones id task (on_call id f x) in
+      let h = λ (x : All Moved). effect.end_call noted plan barrier (fails (Predefined Tasking)) id x in
+      if_beside p (effect.is_lost noted plan barrier call c) (cancels id c) (if is_callable (own_of task c) then g c else h c) (cancels id e) (if is_callable (own_of task c) then g e else h e)
+      (cancels_kept p id c e k s)
+      (if_beside p (is_callable (own_of task c)) (g c) (h c) (g e) (h e)
+      (made_again_kept alternative ones id task (on_call id f c) (on_call id f e) k (call_kept p id f c e k s))
+      (end_call_kept p plan barrier (fails (Predefined Tasking)) id c e k s)))
+
+  requeued_kept : (alternative : Option ℕ) (o : Owner) (at : Pos) (id n : ℕ) (c d : All Moved) → p.kept id → Beside p c d → Beside p (effect.requeued_on noted plan barrier alternative o at id n c) (effect.requeued_on noted plan barrier alternative o at id n d)
+  requeued_kept alternative (owner.Task task) at id n c d k r = at_kept p (effect.requeued_on noted plan barrier alternative (owner.Task task) at id n) c d r (λ fs cs m.
+      let e : All Moved = with_kept fs cs c in
+      subst (λ call. Beside p (again_with alternative (call_of id c) task id c) (again_with alternative call task id e)) (call_same p id c fs cs m k)
+      (again_with_kept alternative (call_of id c) task id c e k (beside p c fs cs m)))
+  requeued_kept alternative (owner.Object object) at id n c d k r =
+      own_kept p n (λ own. record own { restart = Some (record { call = id; object = object; at = at }) }) c d (λ o h. (h.0, h.1, k)) r
+
+  accept_ended_kept : (alternative : Option ℕ) (o : Option Again) (values : List ℤ) (id n : ℕ) (c d : All Moved) → p.kept id → Beside p c d → Beside p (effect.accept_ended noted plan barrier alternative o values id n c) (effect.accept_ended noted plan barrier alternative o values id n d)
+  accept_ended_kept alternative None values id n c d k r = end_call_kept p plan barrier (succeeds values) id c d k r
+  accept_ended_kept alternative (Some x) values id n c d k r =
+      let f = effect.retargeted noted plan barrier x values in
+      requeued_kept alternative x.owner x.at id n (on_call id f c) (on_call id f d) k (call_kept p id f c d k r)
+
+  pub accept_end_kept : (alternative : Option ℕ) (pending : Option Pending) (id : ℕ) (o : Opened) (n : ℕ) (c d : All Moved) → p.named o.frame → p.kept id → Beside p c d → Beside p (effect.at_accept_end noted plan barrier alternative pending id o n c) (effect.at_accept_end noted plan barrier alternative pending id o n d)
+  accept_end_kept alternative None id o n c d f k r = at_kept p (effect.at_accept_end noted plan barrier alternative None id o n) c d r (λ fs cs m.
+      let e : All Moved = with_kept fs cs c in
+      let g : Own → Own = λ own. record (closed own) { again = None } in
+      let values = effect.present_values noted plan barrier id o.frame c in
+      let again = (own_of n c).again in
+      subst (λ vs. Beside p (effect.accept_ended noted plan barrier alternative again values id n (on_own n g c)) (effect.accept_ended noted plan barrier alternative again vs id n (on_own n g e))) (present_same o.frame id c fs cs m f k)
+      (accept_ended_kept alternative again values id n (on_own n g c) (on_own n g e) k (own_kept p n g c e (λ own h. names_closed p own h) (beside p c fs cs m))))
+  accept_end_kept alternative (Some x) id o n c d f k r =
+      let g : Own → Own = λ own. pends x.exception o.at (record (closed own) { again = None }) in
+      end_call_kept p plan barrier (fails x.exception) id (on_own n g c) (on_own n g d) k (own_kept p n g c d (λ own h. names_closed p own h) r)
 
   oldest_kept : (a : OpenAccept) (ws : List Waiting) (n : ℕ) (c d : All Moved) → EachWaiting p.kept ws → Beside p c d → Beside p (effect.accepts_oldest noted plan barrier a ws n c) (effect.accepts_oldest noted plan barrier a ws n d)
   oldest_kept a [] n c d k r = own_kept p n (blocks Accepting a.at (record { accepts = a ∷ []; delays = []; terminate = false })) c d (λ o h. h) r

@@ -21,6 +21,7 @@ use Rattle.aud_meaning.specs.Step.{has_next, for_first, for_step}
 use Rattle.aud_over.proofs.Frames.{Agree, agree_at, agree_length, agree_set, agree_behind}
 use Rattle.aud_over.proofs.Calls.{EachOf}
 use Rattle.aud_over.proofs.Beside.{Kept, KeepsPurpose, NamesOpened, NamesAll, Names, each_joined, MayHaveOne, BesideOne, one_with, beside_one, at_one, if_one, one_more}
+use Rattle.aud_meaning.specs.declared.state.Again.{Again}
 
 -- what is copied back, with the same exception
 pub record BackSame (p : Kept) (b d : CopiedBack) : Type 0 where
@@ -41,14 +42,14 @@ module _ (p : Kept) where
 
   pub names_closed_by : (os : List Opened) (o : Own) → NamesAll p os → Names p o → Names p (closed_by os o)
   names_closed_by [] o h g = g
-  names_closed_by (x ∷ xs) o h g = (h.0.1, h.1)
+  names_closed_by (x ∷ xs) o h g = (h.0.1, h.1, g.2)
 
   pub names_closed : (o : Own) → Names p o → Names p (closed o)
   names_closed o h = names_closed_by o.opened o h.1 h
 
   pub names_out : (os : List Opened) (o : Own) → NamesAll p os → Names p o → Names p (out_of_loops_by os o)
   names_out [] o h g = g
-  names_out (x ∷ xs) o h g = by (is_loop x.purpose) (names_out xs (record o { display = x.saved; opened = xs }) h.1 (h.0.1, h.1))
+  names_out (x ∷ xs) o h g = by (is_loop x.purpose) (names_out xs (record o { display = x.saved; opened = xs }) h.1 (h.0.1, h.1, g.2))
     where
       by : (b : Bool) → Names p (out_of_loops_by xs (record o { display = x.saved; opened = xs })) → Names p (if b then out_of_loops_by xs (record o { display = x.saved; opened = xs }) else o)
       by true k = k
@@ -64,7 +65,7 @@ module _ (p : Kept) where
   pub names_handles : (pending : Pending) (o : Own) → Names p o → Names p (own.handles pending o)
   names_handles pending o h =
       let g : Names p (own.out_of_loops o) = names_out_of_loops o h in
-      (g.0, names_first (λ f. record f { handling = Some pending.exception }) (own.out_of_loops o).opened (λ x k. k) g.1)
+      (g.0, names_first (λ f. record f { handling = Some pending.exception }) (own.out_of_loops o).opened (λ x k. k) g.1, g.2)
 
   names_value_in : (z : ℤ) (purpose : Purpose) → KeepsPurpose p.kept purpose → KeepsPurpose p.kept (own.with_value_in z purpose)
   names_value_in z for_body h = h
@@ -142,7 +143,7 @@ module _ (p : Kept) where
         may = record {
           frames = agree_behind p.named u.shared.frames fs (cells ∷ []) m.frames;
           calls = m.calls;
-          own = (each_joined p.named display (length u.shared.frames ∷ []) d (new, tt), ((new, m.own.0, k), m.own.1));
+          own = (each_joined p.named display (length u.shared.frames ∷ []) d (new, tt), ((new, m.own.0, k), m.own.1), m.own.2);
           objects = m.objects;
           room = one_more p.frames cells u.shared.frames m.room;
           call_room = m.call_room;
@@ -159,7 +160,7 @@ module _ (p : Kept) where
         may = record {
           frames = agree_set p.named u.shared.frames fs i (slice_index_or u.shared.frames i [] ++ cells) (slice_index_or fs i [] ++ cells) m.frames (λ l. ap (λ f. f ++ cells) (agree_at p.named u.shared.frames fs m.frames i l));
           calls = m.calls;
-          own = (m.own.0, names_first (λ o. record o { elaborated = suc o.elaborated }) u.own.opened (λ x k. k) m.own.1);
+          own = (m.own.0, names_first (λ o. record o { elaborated = suc o.elaborated }) u.own.opened (λ x k. k) m.own.1, m.own.2);
           objects = m.objects;
           room = set_room u.shared.frames i (slice_index_or u.shared.frames i [] ++ cells) m.room;
           call_room = m.call_room;
@@ -261,13 +262,20 @@ module _ (p : Kept) where
 
     value_one : (value : Option ℤ) (u v : Acting Moved) → BesideOne p u v → BesideOne p (step.with_function_value noted plan barrier value u) (step.with_function_value noted plan barrier value v)
     value_one None u v r = r
-    value_one (Some z) u v r = own_one (λ o. record o { opened = own.sets_value z o.opened }) u v (λ o h. (h.0, names_value z o.opened h.1)) r
+    value_one (Some z) u v r = own_one (λ o. record o { opened = own.sets_value z o.opened }) u v (λ o h. (h.0, names_value z o.opened h.1, h.2)) r
 
     pub goes_out_one : (loops : ℕ) (value : Option ℤ) (u v : Acting Moved) → BesideOne p u v → BesideOne p (step.out_of_loops noted plan barrier loops (step.with_function_value noted plan barrier value u)) (step.out_of_loops noted plan barrier loops (step.with_function_value noted plan barrier value v))
     goes_out_one loops value u v r =
         let x : Acting Moved = step.with_function_value noted plan barrier value u in
         let y : Acting Moved = step.with_function_value noted plan barrier value v in
         own_one (own.out_of loops) (record x { control = gets_out x.control }) (record y { control = gets_out y.control }) (names_out_of loops) (control_one gets_out x y (value_one value u v r))
+
+    pub requeue_one : (loops : ℕ) (r : Again) (u v : Acting Moved) → BesideOne p u v → BesideOne p (step.out_of_loops noted plan barrier loops (step.requeued noted plan barrier r u)) (step.out_of_loops noted plan barrier loops (step.requeued noted plan barrier r v))
+    requeue_one loops r u v h =
+        let x : Acting Moved = step.requeued noted plan barrier r u in
+        let y : Acting Moved = step.requeued noted plan barrier r v in
+        own_one (own.out_of loops) (record x { control = gets_out x.control }) (record y { control = gets_out y.control }) (names_out_of loops)
+        (control_one gets_out x y (own_one (λ o. record o { again = Some r }) u v (λ o k. k) h))
 
     pub assigns_one : (a : Target) (z : ℤ) (u v : Acting Moved) → BesideOne p u v → BesideOne p (step.moves_on noted plan barrier 0 (step.stored_at noted plan barrier a z u)) (step.moves_on noted plan barrier 0 (step.stored_at noted plan barrier a z v))
     assigns_one a z u v r = moves_on_one 0 (step.stored_at noted plan barrier a z u) (step.stored_at noted plan barrier a z v) (stored_one a z u v r)

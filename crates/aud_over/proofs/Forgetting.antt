@@ -1,14 +1,15 @@
 -- What is over is forgotten: what is left of it is the same for whatever is named.
 use Rattle.std.proofs.Common.{◌≡◌, ℕ, suc, ◌+◌, ◌<◌, ◌≤◌, List, [], ◌∷◌, length, slice_index_or, Bool, true, false, ◌||◌, refl, sym, ap, ◌∙◌, subst, arith, inl, inr}
-use Rattle.std.specs.Prelude.{◌⊎◌, not, nat_eq}
+use Rattle.std.specs.Prelude.{◌⊎◌, not, nat_eq, Option, Some, None}
 use Rattle.std.proofs.lemmas.Bool.{eqb-true, eq-eqb}
 use Rattle.aud_meaning.specs.Configuration.{Frame, Purpose, for_body, for_block, for_loop, for_procedure, for_operation, for_entry, for_accept, Opened, Own, Call, Object, TaskAt, All}
 use Rattle.aud_meaning.specs.Parts.{contains, any, no_call, owns}
-use Rattle.aud_over.specs.Over.{with_kept, is_call_over, own_names, object_names, is_named, is_for, own_serves, is_served, frame_if, frames_left, call_if, calls_left, forgotten}
+use Rattle.aud_over.specs.Over.{with_kept, is_call_over, own_names, object_names, is_named, is_for, own_serves, is_served, frame_if, frames_left, call_if, calls_left, forgotten, is_made_again}
 use Rattle.aud_meaning.specs.Ties.Named.{opened_name}
 use Rattle.aud_over.proofs.Frames.{Agree, agree_fewer}
 use Rattle.aud_over.proofs.Calls.{SameCall, SameCalls, EachOf, true_is_not_false}
-use Rattle.aud_over.proofs.Beside.{Kept, KeepsPurpose, NamesAll, Names, TasksName, ObjectsName, MayHave, Beside}
+use Rattle.aud_over.proofs.Beside.{Kept, KeepsPurpose, NamesAll, Names, TasksName, ObjectsName, MayHave, Beside, KeepsRestart}
+use Rattle.aud_meaning.specs.declared.state.Restart.{Restart}
 
 -- Tests.
 
@@ -67,10 +68,19 @@ module _ (p : Kept) where
         (λ id e. g id (or_second (is_for id o.purpose) (any (λ (x : Opened). is_for id x.purpose) os) e)),
   )
 
+  again_kept : (o : Option Restart) → ((id : ℕ) → is_made_again id o ≡ true → p.kept id) → KeepsRestart p.kept o
+  again_kept None h = tt
+  again_kept (Some r) h = h r.call (eq-eqb r.call r.call refl)
+
+  again_back : (o : Option Restart) → KeepsRestart p.kept o → (id : ℕ) → is_made_again id o ≡ true → p.kept id
+  again_back None k id e = true_is_not_false (sym e)
+  again_back (Some r) k id e = subst p.kept (sym (eqb-true id r.call e)) k
+
   own_named : (o : Own) → ((f : ℕ) → own_names f o ≡ true → p.named f) → ((id : ℕ) → own_serves id o ≡ true → p.kept id) → Names p o
   own_named o h g = (
     each_contained p.named o.display (λ f c. h f (or_first (contains f o.display) (opened_name f o.opened) c)),
-    opened_named o.opened (λ f c. h f (or_second (contains f o.display) (opened_name f o.opened) c)) g,
+    opened_named o.opened (λ f c. h f (or_second (contains f o.display) (opened_name f o.opened) c)) (λ id e. g id (or_second (is_made_again id o.restart) (any (λ (x : Opened). is_for id x.purpose) o.opened) e)),
+    again_kept o.restart (λ id e. g id (or_first (is_made_again id o.restart) (any (λ (x : Opened). is_for id x.purpose) o.opened) e)),
   )
 
   pub tasks_named : {C : Type 0} (ts : List (TaskAt C)) → ((f : ℕ) → any (own_names f) (owns ts) ≡ true → p.named f) → ((id : ℕ) → any (own_serves id) (owns ts) ≡ true → p.kept id) → TasksName p ts
@@ -118,6 +128,13 @@ module _ (p : Kept) where
       by (inl e) rest = for_kept o.purpose h.0.2 id e
       by (inr e) rest = rest e
 
+  own_served : (o : Own) → Names p o → (id : ℕ) → own_serves id o ≡ true → p.kept id
+  own_served o h id e = by (or_either (is_made_again id o.restart) (any (λ (x : Opened). is_for id x.purpose) o.opened) e)
+    where
+      by : (is_made_again id o.restart ≡ true) ⊎ (any (λ (x : Opened). is_for id x.purpose) o.opened ≡ true) → p.kept id
+      by (inl e) = again_back o.restart h.2 id e
+      by (inr e) = served_back o.opened h.1 id e
+
   own_back : (o : Own) → Names p o → (f : ℕ) → own_names f o ≡ true → p.named f
   own_back o h f e = by (or_either (contains f o.display) (opened_name f o.opened) e)
     where
@@ -138,7 +155,7 @@ module _ (p : Kept) where
   calls_back (t ∷ ts) h id e = by (or_either (own_serves id t.own) (any (own_serves id) (owns ts)) e) (calls_back ts h.1 id)
     where
       by : (own_serves id t.own ≡ true) ⊎ (any (own_serves id) (owns ts) ≡ true) → (any (own_serves id) (owns ts) ≡ true → p.kept id) → p.kept id
-      by (inl e) rest = served_back t.own.opened h.0.1 id e
+      by (inl e) rest = own_served t.own h.0 id e
       by (inr e) rest = rest e
 
   pub objects_back : (os : List Object) → ObjectsName p os → (f : ℕ) → any (object_names f) os ≡ true → p.named f

@@ -16,7 +16,7 @@ use Rattle.aud_meaning.specs.Configuration.{Frame, Target, Purpose, for_body, fo
 use Rattle.aud_meaning.specs.Evaluation.{Sight}
 use Rattle.aud_meaning.specs.Control.{Moved, takes_part}
 use Rattle.aud_meaning.specs.Effects as own
-use Rattle.aud_meaning.specs.Effects.{opens, declares, innermost, assigned, closed, closed_by, changed_first, sets_value, with_value_in, is_inner}
+use Rattle.aud_meaning.specs.Effects.{opens, declares, innermost, assigned, closed, changed_first, sets_value, with_value_in, is_inner}
 use Rattle.aud_meaning.specs.Step as step
 use Rattle.aud_meaning.specs.Step.{for_first, for_step, has_next}
 use Rattle.aud_meaning.specs.Parts.{any, acting, put_back, alone, contains, is_created, is_terminated, no_object, object_of, owns}
@@ -27,6 +27,7 @@ use Rattle.aud_over.proofs.Bones.{or_any}
 use Rattle.aud_over.proofs.Taming.{IsTame, stands_tamed}
 use Rattle.aud_over.proofs.Holding.{Holds, own_at, bones_at}
 use Rattle.aud_over.proofs.Leaving.{LeftBy, LeftKept, NoMaster, AnyMaster, out_of_any, put_kept, Left, LeftAs, out_left, out_of_left, alone_cases, Opens, put_opens, put_left, seen_may, longer}
+use Rattle.aud_meaning.specs.declared.state.Again.{Again}
 
 module _ (pins : List ℕ) where
   abbrev pub none : List ℕ → Bool
@@ -252,6 +253,29 @@ module _ (pins : List ℕ) where
             let u : Acting Moved = acting t c.shared in
             let v : Acting Moved = step.with_function_value noted plan barrier value u in
             let same : Still u v = value_bones value u in
+            put_kept pins none n (step.out_of_loops noted plan barrier loops v) c
+            (subst (λ o. LeftKept pins o (own.out_of loops v.own)) (sym e) (from_still (AnyMaster pins) u v (own.out_of loops v.own) same (out_of_any pins loops v.own)))
+            g same.objects same.frames s
+
+    requeued_still : (r : Again) (u : Acting Moved) → Still u (step.requeued noted plan barrier r u)
+    requeued_still r u = record { masters = refl; display = refl; opened = refl; status = refl; objects = refl; frames = refl }
+
+    pub requeue_held : (loops : ℕ) (r : Again) (n : ℕ) (c : All Moved) → LeavesNoMaster loops (bones_at pins c n) ⊎ AreKept (IsPinned (around pins c.shared.objects)) (own_at pins c n) → Held c → Held (alone (λ t. step.out_of_loops noted plan barrier loops (step.requeued noted plan barrier r t)) n c)
+    requeue_held loops r n c h s = alone_cases pins Held (λ t. step.out_of_loops noted plan barrier loops (step.requeued noted plan barrier r t)) n c s (λ t e. by t e h)
+      where
+        by : (t : TaskAt Moved) → own_at pins c n ≡ t.own → LeavesNoMaster loops (bones_at pins c n) ⊎ AreKept (IsPinned (around pins c.shared.objects)) (own_at pins c n) → Held (put_back n (step.out_of_loops noted plan barrier loops (step.requeued noted plan barrier r (acting t c.shared))) c)
+        by t e (inl g) =
+            let u : Acting Moved = acting t c.shared in
+            let v : Acting Moved = step.requeued noted plan barrier r u in
+            let same : Still u v = requeued_still r u in
+            put_left pins none n (step.out_of_loops noted plan barrier loops v) c
+            (subst (λ o. LeftAs pins o (own.out_of loops v.own)) (sym e)
+            (from_still (NoMaster pins) u v (own.out_of loops v.own) same (out_of_left pins loops v.own (subst (λ (o : Own). LeavesNoMaster loops (bones o.opened)) e g))))
+            same.objects same.frames s
+        by t e (inr g) =
+            let u : Acting Moved = acting t c.shared in
+            let v : Acting Moved = step.requeued noted plan barrier r u in
+            let same : Still u v = requeued_still r u in
             put_kept pins none n (step.out_of_loops noted plan barrier loops v) c
             (subst (λ o. LeftKept pins o (own.out_of loops v.own)) (sym e) (from_still (AnyMaster pins) u v (own.out_of loops v.own) same (out_of_any pins loops v.own)))
             g same.objects same.frames s

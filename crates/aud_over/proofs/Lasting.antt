@@ -1,5 +1,5 @@
 -- Each kind of step keeps those frames open that are seen: what it does to all tasks.
-use Rattle.std.proofs.Common.{◌≡◌, ℕ, zero, suc, ◌+◌, ℤ, pos, List, [], ◌∷◌, length, slice_get, slice_index_or, Option, Some, None, Bool, true, false, refl, sym, ap, ◌∙◌, subst, inl, inr}
+use Rattle.std.proofs.Common.{◌≡◌, ℕ, zero, suc, ◌+◌, ℤ, pos, List, [], ◌∷◌, length, slice_get, slice_index_or, Option, Some, None, Bool, true, false, refl, sym, ap, ◌∙◌, subst, inl, inr, ◌++◌}
 use Rattle.std.specs.Prelude.{◌⊎◌, if◌then◌else◌, take, filter, not, ◌&&◌, nat_eq, Result, Ok, Err, is_some}
 use Rattle.aud_text.specs.declared.place.Pos.{Pos}
 use Rattle.aud_text.specs.declared.raise.Raise.{Raise}
@@ -20,9 +20,9 @@ use Rattle.aud_meaning.specs.Configuration.{Target, Returning, Purpose, for_body
 use Rattle.aud_meaning.specs.Evaluation.{Sight, Passed}
 use Rattle.aud_meaning.specs.Control.{Moved, takes_part, does_accept, enters_body}
 use Rattle.aud_meaning.specs.Effects as own
-use Rattle.aud_meaning.specs.Effects.{opens, declares, innermost, closed, closed_by, out_of_loops, out_of_loops_by, is_loop, has_room, pends}
+use Rattle.aud_meaning.specs.Effects.{opens, innermost, closed, closed_by, out_of_loops, has_room, pends}
 use Rattle.aud_meaning.specs.Tasks as effect
-use Rattle.aud_meaning.specs.Parts.{Outcome, succeeds, fails, Waiting, any, acts_on, alone, alone_by, alternative_of, arrives, begin_action, blocks, body_master, call_number, call_of, calls_on_object, cancels, contains, end_action, entry_plan, exception_of, in_action, is_callable, is_created, is_master, is_terminated, new_call, no_waits, nobody, numbers, object_of, on_call, on_control, on_own, on_task, open_alternatives, own_of, owns, queue, raised_at, runs, stands_at_call, unit_of, changed}
+use Rattle.aud_meaning.specs.Parts.{succeeds, fails, Waiting, any, acts_on, alone, alone_by, alternative_of, arrives, begin_action, blocks, body_master, call_number, call_of, calls_on_object, cancels, contains, end_action, entry_plan, exception_of, in_action, is_callable, is_created, is_master, is_terminated, new_call, no_waits, nobody, numbers, object_of, on_call, on_control, on_own, on_task, open_alternatives, own_of, owns, queue, raised_at, runs, stands_at_call, unit_of, changed}
 use Rattle.aud_over.specs.Standing.{AreKept, IsPinned, LastIsMaster, around, at, bone, bones, back_of, Contains, IsFrame, outermost, MaySee, EachIs, GoesBack, AreStacked, IsEmpty, LeavesNoMaster}
 use Rattle.aud_over.proofs.Calls.{true_is_not_false}
 use Rattle.aud_over.proofs.Bones.{each_map, popped}
@@ -30,6 +30,8 @@ use Rattle.aud_over.proofs.Taming.{around_same, IsTame, after, on_own_tame, on_t
 use Rattle.aud_over.proofs.Holding.{Holds, own_at, bones_at, own_changed, numbers_pass, terminate_holds, frameless_hold, close_holds, close_empty, close_ended}
 use Rattle.aud_over.proofs.Leaving.{out_left, own_left}
 use Rattle.aud_over.proofs.Keeping.{none, Held, IsLive, held_tame, sees_its, each_front, sees_object, alone_opens, alone_opens_here}
+use Rattle.aud_meaning.specs.declared.state.Again.{Again}
+use Rattle.aud_meaning.specs.declared.state.Restart.{Restart}
 
 module _ (pins : List ℕ) where
   -- An own part that was changed.
@@ -233,14 +235,73 @@ module _ (pins : List ℕ) where
         held_tame pins d (effect.returned_or noted plan barrier pending r o.frame o.at n d) (returned_or_tame plan barrier pending r o.frame o.at n d)
         (master_held o (on_own n closed c) k (closed_one n o os closed c e (λ w. (refl, refl, refl)) (same_status (own_at pins c n)) (inr tt) s))
 
-    accept_end_held : (pending : Option Pending) (id : ℕ) (o : Opened) (os : List Opened) (n : ℕ) (c : All Moved) → is_master o ≡ false → AtEnd n o os c → Held pins c → Held pins (effect.at_accept_end noted plan barrier pending id o n c)
-    accept_end_held None id o os n c k e s =
-        let outcome : Outcome = succeeds (effect.formals_now noted plan barrier o.frame (length (call_of id c).values) c) in
-        let d : All Moved = on_own n closed c in
-        held_tame pins d (effect.end_call noted plan barrier outcome id d) (end_call_tame plan barrier outcome id d)
-        (not_master_held o d k (closed_one n o os closed c e (λ w. (refl, refl, refl)) (same_status (own_at pins c n)) (inr tt) s))
-    accept_end_held (Some x) id o os n c k e s =
-        let f : Own → Own = λ own. pends x.exception o.at (closed own) in
+    rendezvous_by_held : (region : Option ℕ) (a : OpenAccept) (id n : ℕ) (c : All Moved) → Held pins c → Held pins (effect.rendezvous_by noted plan barrier region a id n c)
+    rendezvous_by_held None a id n c s =
+        let d : All Moved = on_task n (λ t. record { control = takes_part a.alternative t.control; own = runs t.own }) c in
+        held_tame pins c (effect.rendezvous_by noted plan barrier None a id n c) (after c d (effect.rendezvous_by noted plan barrier None a id n c) (goes_to_tame plan barrier a.alternative n c) (end_call_tame plan barrier (succeeds ((call_of id c).values ++ (call_of id c).unseen)) id d)) s
+    rendezvous_by_held (Some region) a id n c s =
+        let f : TaskAt Moved → TaskAt Moved = λ t. record { control = does_accept a.alternative t.control; own = runs t.own } in
+        let d : All Moved = on_task n f c in
+        opens_here_or_none (for_accept id) region a.at (call_of id c).values (length (call_of id c).values) n d tt (live_then n f runs c (λ t. refl) runs_live)
+        (held_tame pins c d (on_task_tame n f c (λ t. goes_on t.own (runs t.own) refl refl refl refl refl)) s)
+
+    rendezvous_held : (a : OpenAccept) (id n : ℕ) (c : All Moved) → Held pins c → Held pins (effect.rendezvous noted plan barrier a id n c)
+    rendezvous_held a id n c s =
+        let d : All Moved = on_call id (λ call. record call { state = Selected }) c in
+        rendezvous_by_held a.region a id n d (held_tame pins c d (on_call_tame id (λ call. record call { state = Selected }) c) s)
+
+    -- Requeue.
+
+    made_again_held : (alternative : Option ℕ) (ones : List OpenAccept) (id task : ℕ) (c : All Moved) → Held pins c → Held pins (effect.made_again noted plan barrier alternative ones id task c)
+    made_again_held alternative [] id task c s = held_tame pins c (arrives id c) (arrives_tame id c) s
+    made_again_held alternative (a ∷ more) id task c s = rendezvous_held (alternative_of alternative a (a ∷ more)) id task c s
+
+    requeued_held : (alternative : Option ℕ) (o : Owner) (at : Pos) (id n : ℕ) (c : All Moved) → Held pins c → Held pins (effect.requeued_on noted plan barrier alternative o at id n c)
+    requeued_held alternative (owner.Task task) at id n c s =
+        let call = call_of id c in
+        let f = effect.called_of noted plan barrier (owner.Task task) in
+        let ones = open_alternatives (own_of task c) call.entry in
+        let x : All Moved = effect.made_again noted plan barrier alternative ones id task (on_call id f c) in
+        let y : All Moved = effect.end_call noted plan barrier (fails (Predefined Tasking)) id c in
+        if_held (effect.is_lost noted plan barrier call c) (cancels id c) (if is_callable (own_of task c) then x else y)
+        (held_tame pins c (cancels id c) (cancels_tame id c) s)
+        (if_held (is_callable (own_of task c)) x y
+        (made_again_held alternative ones id task (on_call id f c) (held_tame pins c (on_call id f c) (on_call_tame id f c) s))
+        (held_tame pins c y (end_call_tame plan barrier (fails (Predefined Tasking)) id c) s))
+    requeued_held alternative (owner.Object object) at id n c s =
+        let g : Own → Own = λ own. record own { restart = Some (record { call = id; object = object; at = at }) } in
+        held_tame pins c (on_own n g c) (on_own_tame n g c (λ o. keeps o (g o) refl refl refl refl)) s
+
+    accept_ended_held : (alternative : Option ℕ) (o : Option Again) (values : List ℤ) (id n : ℕ) (c : All Moved) → Held pins c → Held pins (effect.accept_ended noted plan barrier alternative o values id n c)
+    accept_ended_held alternative None values id n c s = held_tame pins c (effect.end_call noted plan barrier (succeeds values) id c) (end_call_tame plan barrier (succeeds values) id c) s
+    accept_ended_held alternative (Some x) values id n c s =
+        let f = effect.retargeted noted plan barrier x values in
+        requeued_held alternative x.owner x.at id n (on_call id f c) (held_tame pins c (on_call id f c) (on_call_tame id f c) s)
+
+    queued_again_tame : (object id : ℕ) (c : All Moved) → IsTame c (effect.queued_again noted plan barrier object id c)
+    queued_again_tame object id c = by (effect.is_lost noted plan barrier (call_of id c) c)
+      where
+        by : (b : Bool) → IsTame c (if b then cancels id c else arrives id (on_call id (effect.called_of noted plan barrier (owner.Object object)) c))
+        by true = cancels_tame id c
+        by false =
+            let f = effect.called_of noted plan barrier (owner.Object object) in
+            after c (on_call id f c) (arrives id (on_call id f c)) (on_call_tame id f c) (arrives_tame id (on_call id f c))
+
+    pub entry_ended_tame : (pending : Option Pending) (o : Option Again) (values : List ℤ) (object id : ℕ) (c : All Moved) → IsTame c (effect.entry_ended noted plan barrier pending o values object id c)
+    entry_ended_tame (Some x) o values object id c = end_call_tame plan barrier (fails x.exception) id c
+    entry_ended_tame None None values object id c = end_call_tame plan barrier (succeeds values) id c
+    entry_ended_tame None (Some x) values object id c =
+        let f = effect.retargeted noted plan barrier x values in
+        after c (on_call id f c) (effect.queued_again noted plan barrier object id (on_call id f c)) (on_call_tame id f c) (queued_again_tame object id (on_call id f c))
+
+    accept_end_held : (alternative : Option ℕ) (pending : Option Pending) (id : ℕ) (o : Opened) (os : List Opened) (n : ℕ) (c : All Moved) → is_master o ≡ false → AtEnd n o os c → Held pins c → Held pins (effect.at_accept_end noted plan barrier alternative pending id o n c)
+    accept_end_held alternative None id o os n c k e s =
+        let f : Own → Own = λ own. record (closed own) { again = None } in
+        let d : All Moved = on_own n f c in
+        accept_ended_held alternative (own_of n c).again (effect.present_values noted plan barrier id o.frame c) id n d
+        (not_master_held o d k (closed_one n o os f c e (λ w. (refl, refl, refl)) (same_status (own_at pins c n)) (inr tt) s))
+    accept_end_held alternative (Some x) id o os n c k e s =
+        let f : Own → Own = λ own. pends x.exception o.at (record (closed own) { again = None }) in
         let d : All Moved = on_own n f c in
         held_tame pins d (effect.end_call noted plan barrier (fails x.exception) id d) (end_call_tame plan barrier (fails x.exception) id d)
         (not_master_held o d k (closed_one n o os f c e (λ w. (refl, refl, refl)) (same_status (own_at pins c n)) (inr tt) s))
@@ -255,12 +316,12 @@ module _ (pins : List ℕ) where
 
     entry_end_held : (pending : Option Pending) (object id : ℕ) (back : Resumed) (o : Opened) (os : List Opened) (n : ℕ) (c : All Moved) → is_master o ≡ false → (is_created back.status ≡ false) × (is_terminated back.status ≡ false) → AtEnd n o os c → Held pins c → Held pins (effect.at_entry_end noted plan barrier pending object id back o n c)
     entry_end_held pending object id back o os n c k b e s =
-        let f : Own → Own = λ own. record (closed own) { status = back.status; pending = back.pending } in
-        let outcome : Outcome = effect.entry_outcome noted plan barrier pending (effect.formals_now noted plan barrier o.frame (length (call_of id c).values) c) in
+        let f : Own → Own = λ own. record (closed own) { status = back.status; pending = back.pending; again = None } in
+        let values = effect.present_values noted plan barrier id o.frame c in
         let d : All Moved = on_own n f c in
-        let x : All Moved = effect.end_call noted plan barrier outcome id d in
+        let x : All Moved = effect.entry_ended noted plan barrier pending (own_of n c).again values object id d in
         held_tame pins x (effect.serviced noted plan barrier object o.at n x) (serviced_tame plan barrier object o.at n x)
-        (held_tame pins d x (end_call_tame plan barrier outcome id d)
+        (held_tame pins d x (entry_ended_tame pending (own_of n c).again values object id d)
         (not_master_held o d k (closed_one n o os f c e (λ w. (refl, refl, refl)) (inr b) (inr tt) s)))
 
     -- the loops within the construct are left
@@ -282,23 +343,23 @@ module _ (pins : List ℕ) where
     master_of : (o : Opened) (q : Purpose) → o.purpose ≡ q → is_master (record o { purpose = q }) ≡ is_master o
     master_of o q e = ap (λ p. is_master (record o { purpose = p })) (sym e)
 
-    end_by_held : (q : Purpose) (pending : Option Pending) (o : Opened) (os : List Opened) (n : ℕ) (c : All Moved) → o.purpose ≡ q → (out_of_loops (own_at pins c n)).opened ≡ o ∷ os → Held pins c → Held pins (effect.at_end_by noted plan barrier q pending o n c)
-    end_by_held for_body pending o os n c p e s = completes_held (exception_of pending) n c s
-    end_by_held for_block pending o os n c p e s = block_end_held pending o os n (on_own n out_of_loops c) (sym (master_of o for_block p)) (out_at n o os c e) (out_held n c s)
-    end_by_held for_loop pending o os n c p e s = s
-    end_by_held (for_procedure r) pending o os n c p e s = procedure_end_held pending r o os n (on_own n out_of_loops c) (sym (master_of o (for_procedure r) p)) (out_at n o os c e) (out_held n c s)
-    end_by_held (for_operation object r) pending o os n c p e s = operation_end_held pending object r o os n (on_own n out_of_loops c) (sym (master_of o (for_operation object r) p)) (out_at n o os c e) (out_held n c s)
-    end_by_held (for_entry object id served back) pending o os n c p e s =
+    end_by_held : (alternative : Option ℕ) (q : Purpose) (pending : Option Pending) (o : Opened) (os : List Opened) (n : ℕ) (c : All Moved) → o.purpose ≡ q → (out_of_loops (own_at pins c n)).opened ≡ o ∷ os → Held pins c → Held pins (effect.at_end_by noted plan barrier alternative q pending o n c)
+    end_by_held alternative for_body pending o os n c p e s = completes_held (exception_of pending) n c s
+    end_by_held alternative for_block pending o os n c p e s = block_end_held pending o os n (on_own n out_of_loops c) (sym (master_of o for_block p)) (out_at n o os c e) (out_held n c s)
+    end_by_held alternative for_loop pending o os n c p e s = s
+    end_by_held alternative (for_procedure r) pending o os n c p e s = procedure_end_held pending r o os n (on_own n out_of_loops c) (sym (master_of o (for_procedure r) p)) (out_at n o os c e) (out_held n c s)
+    end_by_held alternative (for_operation object r) pending o os n c p e s = operation_end_held pending object r o os n (on_own n out_of_loops c) (sym (master_of o (for_operation object r) p)) (out_at n o os c e) (out_held n c s)
+    end_by_held alternative (for_entry object id served back) pending o os n c p e s =
         entry_end_held pending object id back o os n (on_own n out_of_loops c) (sym (master_of o (for_entry object id served back) p))
         (back_by n o os object id served back (on_own n out_of_loops c) p (out_at n o os c e) (out_held n c s)) (out_at n o os c e) (out_held n c s)
-    end_by_held (for_accept id) pending o os n c p e s = accept_end_held pending id o os n (on_own n out_of_loops c) (sym (master_of o (for_accept id) p)) (out_at n o os c e) (out_held n c s)
+    end_by_held alternative (for_accept id) pending o os n c p e s = accept_end_held alternative pending id o os n (on_own n out_of_loops c) (sym (master_of o (for_accept id) p)) (out_at n o os c e) (out_held n c s)
 
-    end_of_held : (ys : List Opened) (pending : Option Pending) (n : ℕ) (c : All Moved) → (out_of_loops (own_at pins c n)).opened ≡ ys → Held pins c → Held pins (effect.at_end_of noted plan barrier ys pending n c)
-    end_of_held [] pending n c e s = s
-    end_of_held (o ∷ os) pending n c e s = end_by_held o.purpose pending o os n c refl e s
+    end_of_held : (alternative : Option ℕ) (ys : List Opened) (pending : Option Pending) (n : ℕ) (c : All Moved) → (out_of_loops (own_at pins c n)).opened ≡ ys → Held pins c → Held pins (effect.at_end_of noted plan barrier alternative ys pending n c)
+    end_of_held alternative [] pending n c e s = s
+    end_of_held alternative (o ∷ os) pending n c e s = end_by_held alternative o.purpose pending o os n c refl e s
 
-    pub at_end_held : (pending : Option Pending) (n : ℕ) (c : All Moved) → Held pins c → Held pins (effect.at_end noted plan barrier pending n c)
-    at_end_held pending n c s = end_of_held (out_of_loops (own_of n c)).opened pending n c refl s
+    pub at_end_held : (alternative : Option ℕ) (pending : Option Pending) (n : ℕ) (c : All Moved) → Held pins c → Held pins (effect.at_end noted plan barrier alternative pending n c)
+    at_end_held alternative pending n c s = end_of_held alternative (out_of_loops (own_of n c)).opened pending n c refl s
 
     -- a block, with loops around it that are left at once
     pub block_with_loops : (k : ℕ) (pending : Option Pending) (o : Opened) (os : List Opened) (n : ℕ) (c : All Moved) → is_master o ≡ true → AtEnd n o os c → LeavesNoMaster k (bones os) → LeavesNoMaster k (bones_at pins (effect.at_block_end noted plan barrier pending o n c) n)
@@ -407,21 +468,6 @@ module _ (pins : List ℕ) where
 
     -- Rendezvous.
 
-    rendezvous_by_held : (region : Option ℕ) (a : OpenAccept) (id n : ℕ) (c : All Moved) → Held pins c → Held pins (effect.rendezvous_by noted plan barrier region a id n c)
-    rendezvous_by_held None a id n c s =
-        let d : All Moved = on_task n (λ t. record { control = takes_part a.alternative t.control; own = runs t.own }) c in
-        held_tame pins c (effect.rendezvous_by noted plan barrier None a id n c) (after c d (effect.rendezvous_by noted plan barrier None a id n c) (goes_to_tame plan barrier a.alternative n c) (end_call_tame plan barrier (succeeds (call_of id c).values) id d)) s
-    rendezvous_by_held (Some region) a id n c s =
-        let f : TaskAt Moved → TaskAt Moved = λ t. record { control = does_accept a.alternative t.control; own = runs t.own } in
-        let d : All Moved = on_task n f c in
-        opens_here_or_none (for_accept id) region a.at (call_of id c).values (length (call_of id c).values) n d tt (live_then n f runs c (λ t. refl) runs_live)
-        (held_tame pins c d (on_task_tame n f c (λ t. goes_on t.own (runs t.own) refl refl refl refl refl)) s)
-
-    rendezvous_held : (a : OpenAccept) (id n : ℕ) (c : All Moved) → Held pins c → Held pins (effect.rendezvous noted plan barrier a id n c)
-    rendezvous_held a id n c s =
-        let d : All Moved = on_call id (λ call. record call { state = Selected }) c in
-        rendezvous_by_held a.region a id n d (held_tame pins c d (on_call_tame id (λ call. record call { state = Selected }) c) s)
-
     blocks_held : (n : ℕ) (f : Own → Own) (c : All Moved) → ((o : Own) → ((f o).masters ≡ o.masters) × ((f o).display ≡ o.display) × ((f o).opened ≡ o.opened) × (is_terminated (f o).status ≡ false) × (is_created (f o).status ≡ false)) → Held pins c → Held pins (on_own n f c)
     blocks_held n f c h s = held_tame pins c (on_own n f c) (on_own_tame n f c (λ o. goes_on o (f o) (h o).0 (h o).1 (ap bones (h o).2) (h o).3 (h o).4)) s
 
@@ -470,6 +516,30 @@ module _ (pins : List ℕ) where
         (held_tame pins c (raised_at Program at n c) (raised_tame Program at n c) s)
         (if_held (nat_eq ms 0) (on_control n (takes_part 0) c) (on_own n f c) (held_tame pins c (on_control n (takes_part 0) c) (on_control_tame n (takes_part 0) c) s)
         (blocks_held n f c (λ o. (refl, refl, refl, refl, refl)) s))
+
+    -- The step start of a call that is made again.
+
+    kept_live : (n : ℕ) (f : Own → Own) (c : All Moved) → ((o : Own) → (f o).status ≡ o.status) → IsLive pins n c → IsLive pins n (on_own n f c)
+    kept_live n f c h live = by (changed_is c.tasks n (λ t. record t { own = f t.own }) f (λ t. refl))
+      where
+        by : (own_at pins (on_own n f c) n ≡ f (own_at pins c n)) ⊎ ((own_at pins c n ≡ nobody) × (slice_get (on_own n f c).tasks n ≡ None)) → IsLive pins n (on_own n f c)
+        by (inl e) = subst (λ k. (is_terminated k ≡ false) × (is_created k ≡ false)) (sym (ap (λ (o : Own). o.status) e ∙ h (own_at pins c n))) live
+        by (inr z) = absurd (not_nobody n c live z.0)
+
+    pub starts_again_held : (x : Restart) (n : ℕ) (c : All Moved) → IsLive pins n c → Held pins c → Held pins (effect.starts_again noted plan barrier x n c)
+    starts_again_held x n c live s =
+        let call = call_of x.call c in
+        let f : Own → Own = λ own. record own { restart = None } in
+        let d : All Moved = on_own n f c in
+        let t : IsTame c d = on_own_tame n f c (λ o. keeps o (f o) refl refl refl refl) in
+        let g = effect.called_of noted plan barrier (owner.Object x.object) in
+        let e : All Moved = on_call x.call g d in
+        let y : All Moved = begin_action n x.object false e in
+        let met = effect.barrier_of plan barrier x.object call.entry c in
+        if_held (effect.is_lost noted plan barrier call c) (cancels x.call d) (effect.barrier_met noted plan barrier met x.at x.object x.call n y)
+        (held_tame pins c (cancels x.call d) (after c d (cancels x.call d) t (cancels_tame x.call d)) s)
+        (barrier_met_held met x.at x.object x.call n y (kept_live n f c (λ o. refl) live)
+        (held_tame pins c y (after c d y t (after d e y (on_call_tame x.call g d) (begin_tame n x.object false e))) s))
 
     -- The step serve.
 

@@ -1,6 +1,6 @@
 -- What is seen, moves and state are the same where programs are the same but for what nothing names.
 use Rattle.std.proofs.Common.{◌≡◌, ℕ, suc, List, [], ◌∷◌, ◌++◌, map, length, slice_index_or, Option, Some, None, Bool, true, false, refl, sym, ap, ◌∙◌}
-use Rattle.std.specs.Prelude.{if◌then◌else◌, filter, ◌&&◌, nat_le, Result}
+use Rattle.std.specs.Prelude.{if◌then◌else◌, filter, ◌&&◌, nat_le, Result, not, ◌||◌}
 use Rattle.std.proofs.Math.Path.{fun_ext}
 use Rattle.aud_text.specs.declared.raise.Raise.{Raise}
 use Rattle.aud_typed.specs.Tree.{Plan}
@@ -15,7 +15,7 @@ use Rattle.aud_meaning.specs.Evaluation.{Facts, Sight}
 use Rattle.aud_meaning.specs.Control.{Coming, simply, ending, selecting, calling, starting, Scene, Seen, Controls}
 use Rattle.aud_meaning.specs.Parts.{nobody, owns, own_of, call_of, Waiting, is_queued, is_selected, sight_in, sight_of, in_action}
 use Rattle.aud_meaning.specs.declared.state.Move.{Move}
-use Rattle.aud_meaning.specs.Run.{own_move, Turn, resting, closing, completing, withdrawing, serving, expiring, cancelling, acting, is_bound, Deferred, at_once, usual, under_way, turn_by, turn, serve_moves, call_time_by, call_time, owner_idle, has_queue, alternatives_of, each_or_one, end_moves, master_left_by, construct_left, acting_moves, turn_moves, moves_from, has_ended, moves_by, moves, turn_times, times_from, waiting_by, some_move, state_by, state_of, seen, seen_from, scene_of, shown_place, moves_at, state_at}
+use Rattle.aud_meaning.specs.Run.{own_move, Turn, resting, closing, completing, withdrawing, serving, expiring, cancelling, acting, is_bound, Deferred, at_once, usual, under_way, turn_by, turn, serve_moves, call_time_by, call_time, owner_idle, has_queue, alternatives_of, each_or_one, end_moves, master_left_by, construct_left, acting_moves, turn_moves, moves_from, has_ended, moves_by, moves, turn_times, times_from, waiting_by, some_move, state_by, state_of, seen, seen_from, scene_of, shown_place, moves_at, state_at, restarting, ending_moves, again_left}
 use Rattle.aud_over.specs.Over.{with_kept, is_call_over}
 use Rattle.aud_over.specs.Looks.{Looks}
 use Rattle.aud_over.proofs.Frames.{Agree}
@@ -27,8 +27,11 @@ use Rattle.aud_over.proofs.Objects.{eligible_same}
 module _ (p : Kept) (plan : Plan) (barrier : ℕ → Sight → Result Bool Raise) (through : BarrierLooks barrier) where
   -- Turns.
 
-  selected_alike : (a b : Call) → is_call_over a.state ≡ true → is_call_over b.state ≡ true → is_selected a.state ≡ is_selected b.state
-  selected_alike a b h g = not_selected a.state h ∙ sym (not_selected b.state g)
+  waits_alike : (a b : Call) → is_call_over a.state ≡ true → is_call_over b.state ≡ true → (is_selected a.state || (is_queued a.state && a.stays)) ≡ (is_selected b.state || (is_queued b.state && b.stays))
+  waits_alike a b h g = none a h ∙ sym (none b g)
+    where
+      none : (x : Call) → is_call_over x.state ≡ true → (is_selected x.state || (is_queued x.state && x.stays)) ≡ false
+      none x h = ap (λ b. b || (is_queued x.state && x.stays)) (not_selected x.state h) ∙ ap (λ b. b && x.stays) (not_queued x.state h)
 
   bound_same : (status : Status) (n : ℕ) (t : TaskAt Seen) (c : All Seen) (fs : List Frame) (cs : List Call) → MayHave p c fs cs → is_bound plan barrier status n t c ≡ is_bound plan barrier status n t (with_kept fs cs c)
   bound_same Created n t c fs cs m = refl
@@ -36,7 +39,7 @@ module _ (p : Kept) (plan : Plan) (barrier : ℕ → Sight → Result Bool Raise
   bound_same Activating n t c fs cs m = refl
   bound_same Accepting n t c fs cs m = refl
   bound_same Delaying n t c fs cs m = refl
-  bound_same Calling n t c fs cs m = told_same p.kept (λ (a : Call). is_selected a.state) selected_alike 0 c.shared.calls cs m.calls t.own.call
+  bound_same Calling n t c fs cs m = told_same p.kept (λ (a : Call). is_selected a.state || (is_queued a.state && a.stays)) waits_alike 0 c.shared.calls cs m.calls t.own.call
   bound_same Completed n t c fs cs m = refl
   bound_same Terminated n t c fs cs m = refl
 
@@ -81,14 +84,14 @@ module _ (p : Kept) (plan : Plan) (barrier : ℕ → Sight → Result Bool Raise
 
   -- Moves.
 
-  false_first : (x y : Bool) (ns ms : List ℕ) → x ≡ false → (if x && y then ns else ms) ≡ ms
-  false_first true y ns ms h = ap (λ b. if b && y then ns else ms) h
-  false_first false y ns ms h = refl
+  false_three : (x y z : Bool) (ns ms : List ℕ) → x ≡ false → (if x && y && z then ns else ms) ≡ ms
+  false_three true y z ns ms h = ap (λ b. if b && y && z then ns else ms) h
+  false_three false y z ns ms h = refl
 
   time_alike : (c : All Seen) (a b : Call) → is_call_over a.state ≡ true → is_call_over b.state ≡ true → call_time plan barrier a c ≡ call_time plan barrier b c
   time_alike c a b h g =
-      false_first (is_queued a.state) (owner_idle plan barrier a.owner c) (call_time_by plan barrier a.form) [] (not_queued a.state h)
-      ∙ sym (false_first (is_queued b.state) (owner_idle plan barrier b.owner c) (call_time_by plan barrier b.form) [] (not_queued b.state g))
+      false_three (is_queued a.state) (not a.stays) (owner_idle plan barrier a.owner c) (call_time_by plan barrier a.form) [] (not_queued a.state h)
+      ∙ sym (false_three (is_queued b.state) (not b.stays) (owner_idle plan barrier b.owner c) (call_time_by plan barrier b.form) [] (not_queued b.state g))
 
   idle_same : (o : Owner) (c : All Seen) (fs : List Frame) (cs : List Call) → owner_idle plan barrier o c ≡ owner_idle plan barrier o (with_kept fs cs c)
   idle_same (owner.Task n) c fs cs = refl
@@ -97,7 +100,7 @@ module _ (p : Kept) (plan : Plan) (barrier : ℕ → Sight → Result Bool Raise
   pub time_same : (id : ℕ) (c : All Seen) (fs : List Frame) (cs : List Call) → MayHave p c fs cs → call_time plan barrier (call_of id c) c ≡ call_time plan barrier (call_of id (with_kept fs cs c)) (with_kept fs cs c)
   time_same id c fs cs m =
       told_same p.kept (λ (a : Call). call_time plan barrier a c) (time_alike c) 0 c.shared.calls cs m.calls id
-      ∙ ap (λ b. if is_queued (call_of id (with_kept fs cs c)).state && b then call_time_by plan barrier (call_of id (with_kept fs cs c)).form else []) (idle_same (call_of id (with_kept fs cs c)).owner c fs cs)
+      ∙ ap (λ b. if is_queued (call_of id (with_kept fs cs c)).state && not (call_of id (with_kept fs cs c)).stays && b then call_time_by plan barrier (call_of id (with_kept fs cs c)).form else []) (idle_same (call_of id (with_kept fs cs c)).owner c fs cs)
 
   abbrev is_some_waiting : List Waiting → Bool
   is_some_waiting [] = false
@@ -110,9 +113,13 @@ module _ (p : Kept) (plan : Plan) (barrier : ℕ → Sight → Result Bool Raise
   end_same None n c fs cs = refl
   end_same (Some x) n c fs cs = refl
 
+  ending_same : (o : Option (ℕ × ℕ)) (n : ℕ) (c : All Seen) (fs : List Frame) (cs : List Call) → ending_moves plan barrier o n c ≡ ending_moves plan barrier o n (with_kept fs cs c)
+  ending_same None n c fs cs = end_same (master_left_by (construct_left (own_of n c))) n c fs cs
+  ending_same (Some x) n c fs cs = refl
+
   acting_same : (next : Coming) (n : ℕ) (c : All Seen) (fs : List Frame) (cs : List Call) → MayHave p c fs cs → acting_moves plan barrier next n c ≡ acting_moves plan barrier next n (with_kept fs cs c)
   acting_same (simply w) n c fs cs m = refl
-  acting_same ending n c fs cs m = end_same (master_left_by (construct_left (own_of n c))) n c fs cs
+  acting_same ending n c fs cs m = ending_same (again_left (own_of n c).pending (own_of n c).again (construct_left (own_of n c))) n c fs cs
   acting_same (selecting ones) n c fs cs m = ap (λ f. each_or_one plan barrier (alternatives_of plan barrier (filter f ones)) n) (queue_seen n c fs cs m)
   acting_same (calling None entry) n c fs cs m = refl
   acting_same (calling (Some task) entry) n c fs cs m = refl
@@ -124,6 +131,7 @@ module _ (p : Kept) (plan : Plan) (barrier : ℕ → Sight → Result Bool Raise
   turn_moves_same completing n c fs cs m = refl
   turn_moves_same (withdrawing object) n c fs cs m = refl
   turn_moves_same (serving s) n c fs cs m = ap (λ x. serve_moves plan barrier x n) (eligible_same p plan barrier through s.object c fs cs m)
+  turn_moves_same (restarting r) n c fs cs m = refl
   turn_moves_same (expiring delays) n c fs cs m = refl
   turn_moves_same (cancelling id) n c fs cs m = ap (λ ts. map (λ time. own_move n) (filter (λ time. nat_le time c.clock) ts)) (time_same id c fs cs m)
   turn_moves_same (acting next) n c fs cs m = acting_same next n c fs cs m
@@ -158,6 +166,7 @@ module _ (p : Kept) (plan : Plan) (barrier : ℕ → Sight → Result Bool Raise
   times_same completing c fs cs m = refl
   times_same (withdrawing object) c fs cs m = refl
   times_same (serving s) c fs cs m = refl
+  times_same (restarting r) c fs cs m = refl
   times_same (expiring delays) c fs cs m = refl
   times_same (cancelling id) c fs cs m = time_same id c fs cs m
   times_same (acting next) c fs cs m = refl

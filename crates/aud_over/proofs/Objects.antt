@@ -1,6 +1,6 @@
 -- What a step does to all tasks keeps programs the same but for what nothing names: protected objects, abort, the ends of constructs.
-use Rattle.std.proofs.Common.{◌≡◌, ℕ, suc, ℤ, List, [], ◌∷◌, length, slice_index_or, Option, Some, None, Bool, true, false, refl, sym, ap, ◌∙◌, subst}
-use Rattle.std.specs.Prelude.{if◌then◌else◌, nat_eq, Result, Ok, Err}
+use Rattle.std.proofs.Common.{◌≡◌, ℕ, suc, ℤ, List, [], ◌∷◌, slice_index_or, Option, Some, None, Bool, true, false, refl, sym, ap, ◌∙◌, subst}
+use Rattle.std.specs.Prelude.{if◌then◌else◌, nat_eq, Result, Ok, Err, ◌&&◌, not}
 use Rattle.aud_text.specs.declared.place.Pos.{Pos}
 use Rattle.aud_text.specs.declared.raise.Raise.{Raise}
 use Rattle.aud_text.specs.declared.raise.Raise.TheVariants.{Program, Storage}
@@ -18,14 +18,17 @@ use Rattle.aud_meaning.specs.Configuration.{Frame, Target, Returning, Purpose, f
 use Rattle.aud_meaning.specs.Evaluation.{Sight, Passed}
 use Rattle.aud_meaning.specs.Control.{Moved, takes_part, enters_body}
 use Rattle.aud_meaning.specs.Effects.{closed, out_of_loops, has_room, outermost}
-use Rattle.aud_meaning.specs.Parts.{fails, Waiting, acts_on, arrives, begin_action, call_number, call_of, calls_on_object, cancels, end_action, entry_plan, exception_of, in_action, is_created, is_object, object_of, on_call, on_control, on_own, on_task, own_of, queue, raised_at, runs, unit_of, facts_of, owns}
+use Rattle.aud_meaning.specs.Parts.{fails, Waiting, acts_on, arrives, begin_action, call_number, call_of, calls_on_object, cancels, end_action, entry_plan, exception_of, in_action, is_created, is_object, object_of, on_call, on_control, on_own, on_task, own_of, queue, raised_at, runs, unit_of, facts_of, owns, succeeds, numbers, is_queued}
 use Rattle.aud_meaning.specs.Tasks as effect
 use Rattle.aud_over.specs.Over.{with_kept}
 use Rattle.aud_over.proofs.Calls.{EachOf, EachWaiting, numbers_same, numbers_kept, queue_same, queue_kept}
 use Rattle.aud_over.proofs.Beside.{Kept, KeepsPurpose, NamesAll, Names, MayHave, Beside, beside, at_kept, if_beside, own_names, object_names, sees_same, facts_same, task_kept, own_kept, control_kept, call_kept}
 use Rattle.aud_over.proofs.Effects.{names_closed, names_out_of_loops}
 use Rattle.aud_over.proofs.Tasks.{raised_kept, cancels_kept, arrives_kept, call_same, begin_kept, end_kept, end_call_kept, refuse_kept, refuse_queues_kept, refuse_object_kept, terminate_kept, opens_for_kept, completes_kept}
-use Rattle.aud_over.proofs.Constructs.{BarrierLooks, returned_or_kept, closed_kept, block_end_kept, procedure_end_kept, formals_same, accept_end_kept, made_at, made_kept, at_number}
+use Rattle.aud_over.proofs.Constructs.{BarrierLooks, returned_or_kept, closed_kept, block_end_kept, procedure_end_kept, accept_end_kept, made_at, made_kept, at_number, present_same}
+use Rattle.aud_meaning.specs.declared.state.Again.{Again}
+use Rattle.aud_meaning.specs.declared.state.Restart.{Restart}
+use Rattle.std.proofs.Math.Path.{fun_ext}
 
 -- Barriers.
 
@@ -173,17 +176,68 @@ module _ (p : Kept) (plan : Plan) (barrier : ℕ → Sight → Result Bool Raise
       if_beside p r.is_function (end_action n object x) (effect.serviced noted plan barrier object o.at n x) (end_action n object y) (effect.serviced noted plan barrier object o.at n y)
       (end_kept p n object x y h) (serviced_kept object o.at n x y h)
 
+  again_with : Call → ℕ → ℕ → All Moved → All Moved
+  again_with call object id c = if effect.is_lost noted plan barrier call c then cancels id c else arrives id (on_call id (effect.called_of noted plan barrier (owner.Object object)) c)
+
+  queued_again_kept : (object id : ℕ) (c d : All Moved) → p.kept id → Beside p c d → Beside p (effect.queued_again noted plan barrier object id c) (effect.queued_again noted plan barrier object id d)
+  queued_again_kept object id c d k r = at_kept p (effect.queued_again noted plan barrier object id) c d r (λ fs cs m.
+      let e : All Moved = with_kept fs cs c in
+      let s : Beside p c e = beside p c fs cs m in
+      let call = call_of id c in
+      let f = effect.called_of noted plan barrier (owner.Object object) in
+      subst (λ a. Beside p (effect.queued_again noted plan barrier object id c) (if effect.is_lost noted plan barrier a e then cancels id e else arrives id (on_call id f e))) (call_same p id c fs cs m k)
+      (if_beside p (effect.is_lost noted plan barrier call c) (cancels id c) (arrives id (on_call id f c)) (cancels id e) (arrives id (on_call id f e))
+      (cancels_kept p id c e k s) (arrives_kept p id (on_call id f c) (on_call id f e) k (call_kept p id f c e k s))))
+
+  entry_ended_kept : (pending : Option Pending) (o : Option Again) (values : List ℤ) (object id : ℕ) (c d : All Moved) → p.kept id → Beside p c d → Beside p (effect.entry_ended noted plan barrier pending o values object id c) (effect.entry_ended noted plan barrier pending o values object id d)
+  entry_ended_kept (Some x) o values object id c d k r = end_call_kept p plan barrier (fails x.exception) id c d k r
+  entry_ended_kept None None values object id c d k r = end_call_kept p plan barrier (succeeds values) id c d k r
+  entry_ended_kept None (Some x) values object id c d k r =
+      let f = effect.retargeted noted plan barrier x values in
+      queued_again_kept object id (on_call id f c) (on_call id f d) k (call_kept p id f c d k r)
+
   entry_end_kept : (pending : Option Pending) (object id : ℕ) (back : Resumed) (o : Opened) (n : ℕ) (c d : All Moved) → p.named o.frame → p.kept id → Beside p c d → Beside p (effect.at_entry_end noted plan barrier pending object id back o n c) (effect.at_entry_end noted plan barrier pending object id back o n d)
   entry_end_kept pending object id back o n c d f k r = at_kept p (effect.at_entry_end noted plan barrier pending object id back o n) c d r (λ fs cs m.
       let e : All Moved = with_kept fs cs c in
-      let g : Own → Own = λ own. record (closed own) { status = back.status; pending = back.pending } in
-      let values = effect.formals_now noted plan barrier o.frame (length (call_of id c).values) c in
-      let others = effect.formals_now noted plan barrier o.frame (length (call_of id e).values) e in
-      let ends = λ (vs : List ℤ) (x : All Moved). effect.end_call noted plan barrier (effect.entry_outcome noted plan barrier pending vs) id (on_own n g x) in
+      let g : Own → Own = λ own. record (closed own) { status = back.status; pending = back.pending; again = None } in
+      let values = effect.present_values noted plan barrier id o.frame c in
+      let others = effect.present_values noted plan barrier id o.frame e in
+      let again = (own_of n c).again in
+      let ends = λ (vs : List ℤ) (x : All Moved). effect.entry_ended noted plan barrier pending again vs object id (on_own n g x) in
       serviced_kept object o.at n (ends values c) (ends others e)
-      (subst (λ vs. Beside p (ends values c) (ends vs e)) (formals_same p plan barrier o.frame id c fs cs m f k)
-      (end_call_kept p plan barrier (effect.entry_outcome noted plan barrier pending values) id (on_own n g c) (on_own n g e) k
+      (subst (λ vs. Beside p (ends values c) (ends vs e)) (present_same p plan barrier o.frame id c fs cs m f k)
+      (entry_ended_kept pending again values object id (on_own n g c) (on_own n g e) k
       (own_kept p n g c e (λ own h. names_closed p own h) (beside p c fs cs m)))))
+
+  -- The step start of a call that is made again.
+
+  abbrev restarted : Result Bool Raise → Call → Restart → ℕ → All Moved → All Moved
+  restarted met call x n c =
+      let d = on_own n (λ own. record own { restart = None }) c in
+      if effect.is_lost noted plan barrier call c then cancels x.call d
+      else effect.barrier_met noted plan barrier met x.at x.object x.call n (begin_action n x.object false (on_call x.call (effect.called_of noted plan barrier (owner.Object x.object)) d))
+
+  restarted_kept : (met : Result Bool Raise) (call : Call) (x : Restart) (n : ℕ) (c d : All Moved) → p.kept x.call → Beside p c d → Beside p (restarted met call x n c) (restarted met call x n d)
+  restarted_kept met call x n c d k r = at_kept p (restarted met call x n) c d r (λ fs cs m.
+      let e : All Moved = with_kept fs cs c in
+      let f : Own → Own = λ own. record own { restart = None } in
+      let g = effect.called_of noted plan barrier (owner.Object x.object) in
+      let s : Beside p (on_own n f c) (on_own n f e) = own_kept p n f c e (λ o h. (h.0, h.1, tt)) (beside p c fs cs m) in
+      let h = λ (y : All Moved). begin_action n x.object false (on_call x.call g (on_own n f y)) in
+      if_beside p (effect.is_lost noted plan barrier call c) (cancels x.call (on_own n f c)) (effect.barrier_met noted plan barrier met x.at x.object x.call n (h c))
+      (cancels x.call (on_own n f e)) (effect.barrier_met noted plan barrier met x.at x.object x.call n (h e))
+      (cancels_kept p x.call (on_own n f c) (on_own n f e) k s)
+      (barrier_met_kept met x.at x.object x.call n (h c) (h e) k
+      (begin_kept p n x.object false (on_call x.call g (on_own n f c)) (on_call x.call g (on_own n f e)) (call_kept p x.call g (on_own n f c) (on_own n f e) k s))))
+
+  pub starts_again_kept : (x : Restart) (n : ℕ) (c d : All Moved) → p.kept x.call → Beside p c d → Beside p (effect.starts_again noted plan barrier x n c) (effect.starts_again noted plan barrier x n d)
+  starts_again_kept x n c d k r = at_kept p (effect.starts_again noted plan barrier x n) c d r (λ fs cs m.
+      let e : All Moved = with_kept fs cs c in
+      let call = call_of x.call c in
+      let start = effect.starts_again noted plan barrier x n c in
+      subst (λ a. Beside p start (restarted (effect.barrier_of plan barrier x.object a.entry e) a x n e)) (call_same p x.call c fs cs m k)
+      (subst (λ met. Beside p start (restarted met call x n e)) (barrier_same p plan barrier through x.object call.entry c fs cs m)
+      (restarted_kept (effect.barrier_of plan barrier x.object call.entry c) call x n c e k (beside p c fs cs m))))
 
   -- The step serve.
 
@@ -241,13 +295,18 @@ module _ (p : Kept) (plan : Plan) (barrier : ℕ → Sight → Result Bool Raise
   loses_kept n [] c d k r = r
   loses_kept n (id ∷ ids) c d k r = loses_kept n ids (loses_with (call_of id c) n id c) (loses_with (call_of id d) n id d) k.1 (loses_one n id c d k.0 r)
 
+  and_assoc : (x y z : Bool) → ((x && y) && z) ≡ (x && (y && z))
+  and_assoc true y z = refl
+  and_assoc false y z = refl
+
   own_lost : (n : ℕ) (c d : All Moved) → Beside p c d → Beside p (effect.loses_call noted plan barrier n (effect.own_calls noted plan barrier n c.shared.calls) c) (effect.loses_call noted plan barrier n (effect.own_calls noted plan barrier n d.shared.calls) d)
   own_lost n c d r = at_kept p (λ x. effect.loses_call noted plan barrier n (effect.own_calls noted plan barrier n x.shared.calls) x) c d r (λ fs cs m.
       let e : All Moved = with_kept fs cs c in
-      let passes : Call → Bool = λ a. nat_eq a.caller n in
+      let passes : Call → Bool = λ a. nat_eq a.caller n && not a.stays in
+      let same : (xs : List Call) → effect.own_calls noted plan barrier n xs ≡ numbers (λ (a : Call). is_queued a.state && passes a) 0 xs = λ xs. ap (λ (f : Call → Bool). numbers f 0 xs) (fun_ext (λ (a : Call). and_assoc (is_queued a.state) (nat_eq a.caller n) (not a.stays))) in
       let ids = effect.own_calls noted plan barrier n c.shared.calls in
-      subst (λ ns. Beside p (effect.loses_call noted plan barrier n ids c) (effect.loses_call noted plan barrier n ns e)) (numbers_same p.kept passes 0 c.shared.calls cs m.calls)
-      (loses_kept n ids c e (numbers_kept p.kept passes 0 c.shared.calls cs m.calls) (beside p c fs cs m)))
+      subst (λ ns. Beside p (effect.loses_call noted plan barrier n ids c) (effect.loses_call noted plan barrier n ns e)) (same c.shared.calls ∙ numbers_same p.kept passes 0 c.shared.calls cs m.calls ∙ sym (same cs))
+      (loses_kept n ids c e (subst (EachOf p.kept) (sym (same c.shared.calls)) (numbers_kept p.kept passes 0 c.shared.calls cs m.calls)) (beside p c fs cs m)))
 
   each_kept : (f : ℕ → All Moved → All Moved) (ns : List ℕ) (c d : All Moved) → ((n : ℕ) (x y : All Moved) → Beside p x y → Beside p (f n x) (f n y)) → Beside p c d → Beside p (effect.each noted plan barrier f ns c) (effect.each noted plan barrier f ns d)
   each_kept f [] c d keeps r = r
@@ -306,19 +365,19 @@ module _ (p : Kept) (plan : Plan) (barrier : ℕ → Sight → Result Bool Raise
   out_kept : (n : ℕ) (c d : All Moved) → Beside p c d → Beside p (on_own n out_of_loops c) (on_own n out_of_loops d)
   out_kept n c d r = own_kept p n out_of_loops c d (names_out_of_loops p) r
 
-  end_by_kept : (purpose : Purpose) (pending : Option Pending) (o : Opened) (n : ℕ) (c d : All Moved) → p.named o.frame → KeepsPurpose p.kept purpose → Beside p c d → Beside p (effect.at_end_by noted plan barrier purpose pending o n c) (effect.at_end_by noted plan barrier purpose pending o n d)
-  end_by_kept for_body pending o n c d f k r = completes_kept p plan barrier (exception_of pending) n c d r
-  end_by_kept for_block pending o n c d f k r = block_end_kept p plan barrier pending o n (on_own n out_of_loops c) (on_own n out_of_loops d) (out_kept n c d r)
-  end_by_kept for_loop pending o n c d f k r = r
-  end_by_kept (for_procedure x) pending o n c d f k r = procedure_end_kept p plan barrier pending x o n (on_own n out_of_loops c) (on_own n out_of_loops d) f (out_kept n c d r)
-  end_by_kept (for_operation object x) pending o n c d f k r = operation_end_kept pending object x o n (on_own n out_of_loops c) (on_own n out_of_loops d) f (out_kept n c d r)
-  end_by_kept (for_entry object id served back) pending o n c d f k r = entry_end_kept pending object id back o n (on_own n out_of_loops c) (on_own n out_of_loops d) f k (out_kept n c d r)
-  end_by_kept (for_accept id) pending o n c d f k r = accept_end_kept p plan barrier pending id o n (on_own n out_of_loops c) (on_own n out_of_loops d) f k (out_kept n c d r)
+  end_by_kept : (alternative : Option ℕ) (purpose : Purpose) (pending : Option Pending) (o : Opened) (n : ℕ) (c d : All Moved) → p.named o.frame → KeepsPurpose p.kept purpose → Beside p c d → Beside p (effect.at_end_by noted plan barrier alternative purpose pending o n c) (effect.at_end_by noted plan barrier alternative purpose pending o n d)
+  end_by_kept alternative for_body pending o n c d f k r = completes_kept p plan barrier (exception_of pending) n c d r
+  end_by_kept alternative for_block pending o n c d f k r = block_end_kept p plan barrier pending o n (on_own n out_of_loops c) (on_own n out_of_loops d) (out_kept n c d r)
+  end_by_kept alternative for_loop pending o n c d f k r = r
+  end_by_kept alternative (for_procedure x) pending o n c d f k r = procedure_end_kept p plan barrier pending x o n (on_own n out_of_loops c) (on_own n out_of_loops d) f (out_kept n c d r)
+  end_by_kept alternative (for_operation object x) pending o n c d f k r = operation_end_kept pending object x o n (on_own n out_of_loops c) (on_own n out_of_loops d) f (out_kept n c d r)
+  end_by_kept alternative (for_entry object id served back) pending o n c d f k r = entry_end_kept pending object id back o n (on_own n out_of_loops c) (on_own n out_of_loops d) f k (out_kept n c d r)
+  end_by_kept alternative (for_accept id) pending o n c d f k r = accept_end_kept p plan barrier alternative pending id o n (on_own n out_of_loops c) (on_own n out_of_loops d) f k (out_kept n c d r)
 
-  end_of_kept : (os : List Opened) (pending : Option Pending) (n : ℕ) (c d : All Moved) → NamesAll p os → Beside p c d → Beside p (effect.at_end_of noted plan barrier os pending n c) (effect.at_end_of noted plan barrier os pending n d)
-  end_of_kept [] pending n c d h r = r
-  end_of_kept (o ∷ os) pending n c d h r = end_by_kept o.purpose pending o n c d h.0.0 h.0.2 r
+  end_of_kept : (alternative : Option ℕ) (os : List Opened) (pending : Option Pending) (n : ℕ) (c d : All Moved) → NamesAll p os → Beside p c d → Beside p (effect.at_end_of noted plan barrier alternative os pending n c) (effect.at_end_of noted plan barrier alternative os pending n d)
+  end_of_kept alternative [] pending n c d h r = r
+  end_of_kept alternative (o ∷ os) pending n c d h r = end_by_kept alternative o.purpose pending o n c d h.0.0 h.0.2 r
 
-  pub at_end_kept : (pending : Option Pending) (n : ℕ) (c d : All Moved) → Beside p c d → Beside p (effect.at_end noted plan barrier pending n c) (effect.at_end noted plan barrier pending n d)
-  at_end_kept pending n c d r = at_kept p (effect.at_end noted plan barrier pending n) c d r (λ fs cs m.
-      end_of_kept (out_of_loops (own_of n c)).opened pending n c (with_kept fs cs c) (names_out_of_loops p (own_of n c) (own_names p c.tasks n m.tasks)).1 (beside p c fs cs m))
+  pub at_end_kept : (alternative : Option ℕ) (pending : Option Pending) (n : ℕ) (c d : All Moved) → Beside p c d → Beside p (effect.at_end noted plan barrier alternative pending n c) (effect.at_end noted plan barrier alternative pending n d)
+  at_end_kept alternative pending n c d r = at_kept p (effect.at_end noted plan barrier alternative pending n) c d r (λ fs cs m.
+      end_of_kept alternative (out_of_loops (own_of n c)).opened pending n c (with_kept fs cs c) (names_out_of_loops p (own_of n c) (own_names p c.tasks n m.tasks)).1 (beside p c fs cs m))

@@ -1,6 +1,6 @@
 -- Steps and runs of programs that are the same but for what nothing names.
 use Rattle.std.proofs.Common.{◌≡◌, ℕ, zero, suc, ◌+◌, List, [], ◌∷◌, ◌++◌, map, slice_get, slice_index_or, Option, Some, None, Bool, true, false, refl, sym, ap, ◌∙◌, subst, arith, inl, inr}
-use Rattle.std.specs.Prelude.{◌⊎◌, if◌then◌else◌, filter, ◌&&◌, nat_le, Result, Ok, Err}
+use Rattle.std.specs.Prelude.{◌⊎◌, if◌then◌else◌, filter, ◌&&◌, nat_le, Result, Ok, Err, not}
 use Rattle.aud_text.specs.declared.raise.Raise.{Raise}
 use Rattle.aud_text.specs.declared.limits.Limits.{Limits}
 use Rattle.aud_typed.specs.Tree.{Plan}
@@ -14,17 +14,18 @@ use Rattle.aud_meaning.specs.Evaluation.{Sight}
 use Rattle.aud_meaning.specs.Control.{Coming, simply, ending, selecting, calling, starting, Asked, Seen, Moved, here, Controls, all_moved}
 use Rattle.aud_meaning.specs.Parts.{nobody, owns, own_of, call_of, in_action, is_queued}
 use Rattle.aud_meaning.specs.declared.state.Move.{Move}
-use Rattle.aud_meaning.specs.Run.{own_move, picks, Turn, resting, closing, completing, withdrawing, serving, expiring, cancelling, acting, usual, at_once, under_way, is_bound, Deferred, turn_by, turn, only, each_or_one, serve_moves, call_time_by, owner_idle, end_moves, acting_moves, turn_moves, moves_from, has_ended, moves_by, moves, alternative_or_none, turn_taken, turn_at, orders, seen, seen_from, scene_of, step_of, step_with}
+use Rattle.aud_meaning.specs.Run.{own_move, picks, Turn, resting, closing, completing, withdrawing, serving, expiring, cancelling, acting, usual, at_once, under_way, is_bound, Deferred, turn_by, turn, only, each_or_one, serve_moves, call_time_by, owner_idle, end_moves, acting_moves, turn_moves, moves_from, has_ended, moves_by, moves, alternative_or_none, turn_taken, turn_at, orders, seen, seen_from, scene_of, step_of, step_with, restarting, ending_moves, running, coming_of}
 use Rattle.aud_over.specs.Over.{with_kept}
 use Rattle.aud_over.specs.Looks.{Looks}
 use Rattle.aud_over.specs.Law.{IsOneOf}
 use Rattle.aud_over.proofs.Calls.{live_kept, queued_not_over}
-use Rattle.aud_over.proofs.Beside.{Kept, TasksName, MayHave, Beside, beside}
+use Rattle.aud_over.proofs.Beside.{Kept, TasksName, MayHave, Beside, beside, Names, KeepsRestart, IfNames, got_names}
 use Rattle.aud_over.proofs.Constructs.{BarrierLooks, expires_kept}
 use Rattle.aud_over.proofs.Tasks.{closes_kept, completes_kept}
-use Rattle.aud_over.proofs.Objects.{withdraws_kept, serves_kept, call_expires_kept}
+use Rattle.aud_over.proofs.Objects.{withdraws_kept, serves_kept, call_expires_kept, starts_again_kept}
 use Rattle.aud_over.proofs.Steps.{done_kept}
 use Rattle.aud_over.proofs.Looking.{turn_same, seen_same, seen_may, asks_same}
+use Rattle.aud_meaning.specs.declared.state.Restart.{Restart}
 
 -- Enabled moves.
 
@@ -79,9 +80,13 @@ module _ (plan : Plan) (barrier : ℕ → Sight → Result Bool Raise) where
   end_each None n c = (refl, tt)
   end_each (Some master) n c = only_each _ n
 
+  ending_each : (o : Option (ℕ × ℕ)) (n : ℕ) (c : All Seen) → EachMove n (ending_moves plan barrier o n c)
+  ending_each None n c = end_each _ n c
+  ending_each (Some x) n c = one_each _ n
+
   acting_each : (next : Coming) (n : ℕ) (c : All Seen) → EachMove n (acting_moves plan barrier next n c)
   acting_each (simply w) n c = (refl, tt)
-  acting_each ending n c = end_each _ n c
+  acting_each ending n c = ending_each _ n c
   acting_each (selecting ones) n c = one_each _ n
   acting_each (calling None entry) n c = (refl, tt)
   acting_each (calling (Some task) entry) n c = one_each _ n
@@ -93,6 +98,7 @@ module _ (plan : Plan) (barrier : ℕ → Sight → Result Bool Raise) where
   turn_each completing n c = (refl, tt)
   turn_each (withdrawing object) n c = only_each _ n
   turn_each (serving s) n c = serve_each _ n
+  turn_each (restarting r) n c = only_each _ n
   turn_each (expiring delays) n c = delays_each n _
   turn_each (cancelling id) n c = times_each n _
   turn_each (acting next) n c = acting_each next n c
@@ -127,7 +133,7 @@ module _ (plan : Plan) (barrier : ℕ → Sight → Result Bool Raise) where
   -- a call that may be cancelled is queued
   queued_of : (b : Bool) (id n : ℕ) (m : Move) (c : All Seen) → is_queued (call_of id c).state ≡ b → IsOneOf m (turn_moves plan barrier (cancelling id) n c) → is_queued (call_of id c).state ≡ true
   queued_of true id n m c e h = e
-  queued_of false id n m c e h = absurd (subst (λ b. IsOneOf m (map (λ time. own_move n) (filter (λ time. nat_le time c.clock) (if b && owner_idle plan barrier (call_of id c).owner c then call_time_by plan barrier (call_of id c).form else [])))) e h)
+  queued_of false id n m c e h = absurd (subst (λ b. IsOneOf m (map (λ time. own_move n) (filter (λ time. nat_le time c.clock) (if b && not (call_of id c).stays && owner_idle plan barrier (call_of id c).owner c then call_time_by plan barrier (call_of id c).form else [])))) e h)
 
   -- a call that is cancelled is queued
   abbrev QueuedIf : Turn → All Seen → Type 0
@@ -136,6 +142,7 @@ module _ (plan : Plan) (barrier : ℕ → Sight → Result Bool Raise) where
   QueuedIf completing c = Unit {0}
   QueuedIf (withdrawing object) c = Unit {0}
   QueuedIf (serving s) c = Unit {0}
+  QueuedIf (restarting r) c = Unit {0}
   QueuedIf (expiring delays) c = Unit {0}
   QueuedIf (cancelling id) c = is_queued (call_of id c).state ≡ true
   QueuedIf (acting next) c = Unit {0}
@@ -146,6 +153,7 @@ module _ (plan : Plan) (barrier : ℕ → Sight → Result Bool Raise) where
   queued_if completing n m c i = tt
   queued_if (withdrawing object) n m c i = tt
   queued_if (serving s) n m c i = tt
+  queued_if (restarting r) n m c i = tt
   queued_if (expiring delays) n m c i = tt
   queued_if (cancelling id) n m c i = queued_of (is_queued (call_of id c).state) id n m c refl i
   queued_if (acting next) n m c i = tt
@@ -217,6 +225,7 @@ module _ (plan : Plan) (barrier : ℕ → Sight → Result Bool Raise) where
   queued_chosen completing cs c h = tt
   queued_chosen (withdrawing object) cs c h = tt
   queued_chosen (serving s) cs c h = tt
+  queued_chosen (restarting r) cs c h = tt
   queued_chosen (expiring delays) cs c h = tt
   queued_chosen (cancelling id) cs c h = h
   queued_chosen (acting next) cs c h = tt
@@ -232,6 +241,7 @@ module _ (plan : Plan) (barrier : ℕ → Sight → Result Bool Raise) where
   Cancels p completing = Unit {0}
   Cancels p (withdrawing object) = Unit {0}
   Cancels p (serving s) = Unit {0}
+  Cancels p (restarting r) = Unit {0}
   Cancels p (expiring delays) = Unit {0}
   Cancels p (cancelling id) = p.kept id
   Cancels p (acting next) = Unit {0}
@@ -242,6 +252,7 @@ module _ (plan : Plan) (barrier : ℕ → Sight → Result Bool Raise) where
   may_cancel p completing c fs cs h i = tt
   may_cancel p (withdrawing object) c fs cs h i = tt
   may_cancel p (serving s) c fs cs h i = tt
+  may_cancel p (restarting r) c fs cs h i = tt
   may_cancel p (expiring delays) c fs cs h i = tt
   may_cancel p (cancelling id) c fs cs h i = live_kept p.kept c.shared.calls cs h.calls id (queued_not_over (call_of id c).state i)
   may_cancel p (acting next) c fs cs h i = tt
@@ -253,14 +264,19 @@ module _ (plan : Plan) (barrier : ℕ → Sight → Result Bool Raise) where
   OfOwn completing t = Unit {0}
   OfOwn (withdrawing object) t = Unit {0}
   OfOwn (serving s) t = Unit {0}
+  OfOwn (restarting r) t = t.own.restart ≡ Some r
   OfOwn (expiring delays) t = Unit {0}
   OfOwn (cancelling id) t = id ≡ t.own.call
   OfOwn (acting next) t = Unit {0}
 
+  running_own : (o : Option Restart) (next : Coming) (t : TaskAt Seen) → t.own.restart ≡ o → OfOwn (running plan barrier o next) t
+  running_own None next t e = tt
+  running_own (Some r) next t e = e
+
   usual_own : (o : Option Serving) (status : Status) (n : ℕ) (t : TaskAt Seen) (c : All Seen) → OfOwn (usual plan barrier o status n t c) t
   usual_own (Some s) status n t c = tt
   usual_own None Created n t c = tt
-  usual_own None Running n t c = tt
+  usual_own None Running n t c = running_own t.own.restart (coming_of plan barrier n t c) t refl
   usual_own None Activating n t c = tt
   usual_own None Accepting n t c = tt
   usual_own None Delaying n t c = tt
@@ -293,15 +309,16 @@ module _ (plan : Plan) (barrier : ℕ → Sight → Result Bool Raise) where
 -- What a turn does.
 
 module _ (p : Kept) (plan : Plan) (barrier : ℕ → Sight → Result Bool Raise) (through : BarrierLooks barrier) (limits : Limits) where
-  taken_kept : (u : Turn) (asked : Asked) (m : Move) (t : TaskAt Seen) (c d : All Moved) → Cancels plan barrier p u → OfOwn plan barrier u t → (own_of m.task c).call ≡ t.own.call → Beside p c d → Beside p (turn_taken noted plan barrier limits u asked m c) (turn_taken noted plan barrier limits u asked m d)
-  taken_kept resting asked m t c d k o e r = r
-  taken_kept closing asked m t c d k o e r = closes_kept p plan barrier m.task c d r
-  taken_kept completing asked m t c d k o e r = completes_kept p plan barrier None m.task c d r
-  taken_kept (withdrawing object) asked m t c d k o e r = withdraws_kept p plan barrier through object m.task c d r
-  taken_kept (serving s) asked m t c d k o e r = serves_kept p plan barrier through m.alternative s m.task c d r
-  taken_kept (expiring delays) asked m t c d k o e r = expires_kept p plan barrier (alternative_or_none m.alternative) m.task c d r
-  taken_kept (cancelling id) asked m t c d k o e r = call_expires_kept p plan barrier through m.task c d (subst p.kept (o ∙ sym e) k) r
-  taken_kept (acting next) asked m t c d k o e r = done_kept p plan barrier through limits m.alternative asked m.task c d r
+  taken_kept : (u : Turn) (asked : Asked) (m : Move) (t : TaskAt Seen) (c d : All Moved) → Cancels plan barrier p u → OfOwn plan barrier u t → (own_of m.task c).call ≡ t.own.call → Names p t.own → Beside p c d → Beside p (turn_taken noted plan barrier limits u asked m c) (turn_taken noted plan barrier limits u asked m d)
+  taken_kept resting asked m t c d k o e h r = r
+  taken_kept closing asked m t c d k o e h r = closes_kept p plan barrier m.task c d r
+  taken_kept completing asked m t c d k o e h r = completes_kept p plan barrier None m.task c d r
+  taken_kept (withdrawing object) asked m t c d k o e h r = withdraws_kept p plan barrier through object m.task c d r
+  taken_kept (serving s) asked m t c d k o e h r = serves_kept p plan barrier through m.alternative s m.task c d r
+  taken_kept (restarting x) asked m t c d k o e h r = starts_again_kept p plan barrier through x m.task c d (subst (KeepsRestart p.kept) o h.2) r
+  taken_kept (expiring delays) asked m t c d k o e h r = expires_kept p plan barrier (alternative_or_none m.alternative) m.task c d r
+  taken_kept (cancelling id) asked m t c d k o e h r = call_expires_kept p plan barrier through m.task c d (subst p.kept (o ∙ sym e) k) r
+  taken_kept (acting next) asked m t c d k o e h r = done_kept p plan barrier through limits m.alternative asked m.task c d r
 
 module _ {C : Type 0} (p : Kept) (plan : Plan) (k : Controls C) (through : Looks k) where
   abbrev bare : All C → All Moved
@@ -384,7 +401,7 @@ module _ {C : Type 0} (p : Kept) (plan : Plan) (k : Controls C) (through : Looks
           let bm : MayHave p d fs cs = record { frames = h.frames; calls = h.calls; tasks = bare_names c.tasks h.tasks; objects = h.objects; room = h.room; call_room = h.call_room } in
           subst (λ v. Beside p start (carried (one_step_on (with_kept fs cs c)) (turn_taken noted plan k.barrier limits v asked m d'))) (turn_same p plan k.barrier through.barrier m.task x s fs cs sm)
           (carried_kept (one_step_on c) fs cs (turn_taken noted plan k.barrier limits u asked m d) (turn_taken noted plan k.barrier limits u asked m d')
-          (taken_kept p plan k.barrier through.barrier limits u asked m x d d' (may_cancel plan k.barrier p u s fs cs sm may) (by_own plan k.barrier x.own.status m.task x s) own_is (beside p d fs cs bm)))
+          (taken_kept p plan k.barrier through.barrier limits u asked m x d d' (may_cancel plan k.barrier p u s fs cs sm may) (by_own plan k.barrier x.own.status m.task x s) own_is (subst (IfNames p) is (got_names p s.tasks m.task sm.tasks)) (beside p d fs cs bm)))
 
   got_kept : (limits : Limits) (o : Option (TaskAt C)) (m : Move) (c : All C) (fs : List Frame) (cs : List Call) → MayHave p c fs cs → MayStep plan k.barrier (slice_get (seen plan k c).tasks m.task) m (seen plan k c) → Beside p (step_of plan k limits o m c) (step_of plan k limits o m (with_kept fs cs c))
   got_kept limits None m c fs cs h i = beside p c fs cs h

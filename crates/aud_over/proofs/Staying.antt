@@ -10,10 +10,10 @@ use Rattle.aud_meaning.specs.declared.state.Status.TheVariants.{Created, Running
 use Rattle.std.proofs.lemmas.Bool.{eq-eqb}
 use Rattle.aud_meaning.specs.Configuration.{Opened, Own, Object, Shared, TaskAt, All}
 use Rattle.aud_meaning.specs.Evaluation.{Sight}
-use Rattle.aud_meaning.specs.Control.{goes_out, next_of_loop, ends, declares_tasks, Seen, Asked, Moved, here, Controls, all_moved}
-use Rattle.aud_meaning.specs.Parts.{any, contains, in_action, is_created, is_terminated, owns}
+use Rattle.aud_meaning.specs.Control.{goes_out, next_of_loop, ends, declares_tasks, Seen, Asked, Moved, here, Controls, all_moved, requeues, Coming}
+use Rattle.aud_meaning.specs.Parts.{any, contains, in_action, is_created, is_terminated, owns, is_accepting}
 use Rattle.aud_meaning.specs.declared.state.Move.{Move}
-use Rattle.aud_meaning.specs.Run.{Turn, resting, closing, completing, withdrawing, serving, expiring, cancelling, acting, under_way, turn_by, turn, alternative_or_none, turn_taken, turn_at, seen, seen_from, scene_of, step_of, step_with, opening_with}
+use Rattle.aud_meaning.specs.Run.{Turn, resting, closing, completing, withdrawing, serving, expiring, cancelling, acting, under_way, turn_by, turn, alternative_or_none, turn_taken, turn_at, seen, seen_from, scene_of, step_of, step_with, opening_with, restarting, running, usual, coming_of, at_once, Deferred}
 use Rattle.aud_meaning.specs.Tasks as effect
 use Rattle.aud_over.specs.Over.{object_names}
 use Rattle.aud_over.specs.Standing.{around, at, bones, Contains, IsFrame, IsPinned, MaySee, Sees, AreStacked, IsEmpty, StandsBut, Stands, AskedFits, TurnFits, LastIsMaster, AreKept, AskedFits, EachIs, frames_of, its_frames, FitsBy, Fits}
@@ -22,8 +22,10 @@ use Rattle.aud_over.proofs.Bones.{sees_map}
 use Rattle.aud_over.proofs.Taming.{goes_to_tame, call_expires_tame, withdraws_tame}
 use Rattle.aud_over.proofs.Holding.{own_at}
 use Rattle.aud_over.proofs.Keeping.{none, Held, held_tame}
-use Rattle.aud_over.proofs.Lasting.{closes_held, completes_held, serves_held}
+use Rattle.aud_over.proofs.Lasting.{closes_held, completes_held, serves_held, starts_again_held}
 use Rattle.aud_over.proofs.Creating.{done_held}
+use Rattle.aud_meaning.specs.declared.state.Restart.{Restart}
+use Rattle.aud_meaning.specs.declared.state.Serving.{Serving}
 
 module _ (pins : List ℕ) where
   -- Who steps is neither created nor terminated, where that counts.
@@ -34,17 +36,72 @@ module _ (pins : List ℕ) where
   IfLive completing o = Unit {0}
   IfLive (withdrawing object) o = Unit {0}
   IfLive (serving s) o = (is_terminated o.status ≡ false) × (is_created o.status ≡ false)
+  IfLive (restarting r) o = (is_terminated o.status ≡ false) × (is_created o.status ≡ false)
   IfLive (expiring delays) o = Unit {0}
   IfLive (cancelling id) o = Unit {0}
   IfLive (acting next) o = (is_terminated o.status ≡ false) × (is_created o.status ≡ false)
 
+  -- and who takes a step of its own waits in no accept
+  abbrev IfQuiet : Turn → Own → Type 0
+  IfQuiet resting o = Unit {0}
+  IfQuiet closing o = Unit {0}
+  IfQuiet completing o = Unit {0}
+  IfQuiet (withdrawing object) o = Unit {0}
+  IfQuiet (serving s) o = Unit {0}
+  IfQuiet (restarting r) o = Unit {0}
+  IfQuiet (expiring delays) o = Unit {0}
+  IfQuiet (cancelling id) o = Unit {0}
+  IfQuiet (acting next) o = is_accepting o.status ≡ false
+
   module _ (plan : Plan) (barrier : ℕ → Sight → Result Bool Raise) where
+    running_quiet : (r : Option Restart) (next : Coming) (o : Own) → is_accepting o.status ≡ false → IfQuiet (running plan barrier r next) o
+    running_quiet None next o h = h
+    running_quiet (Some r) next o h = tt
+
+    usual_quiet : (s : Option Serving) (status : Status) (n : ℕ) (t : TaskAt Seen) (c : All Seen) → t.own.status ≡ status → IfQuiet (usual plan barrier s status n t c) t.own
+    usual_quiet (Some s) status n t c e = tt
+    usual_quiet None Created n t c e = tt
+    usual_quiet None Running n t c e = running_quiet t.own.restart (coming_of plan barrier n t c) t.own (ap is_accepting e)
+    usual_quiet None Activating n t c e = tt
+    usual_quiet None Accepting n t c e = tt
+    usual_quiet None Delaying n t c e = tt
+    usual_quiet None Calling n t c e = tt
+    usual_quiet None Completed n t c e = tt
+    usual_quiet None Terminated n t c e = tt
+
+    at_once_quiet : (o : Option ℕ) (t : TaskAt Seen) → IfQuiet (at_once plan barrier o) t.own
+    at_once_quiet None t = tt
+    at_once_quiet (Some object) t = tt
+
+    way_quiet : (b : Bool) (n : ℕ) (t : TaskAt Seen) (c : All Seen) → IfQuiet (under_way plan barrier b n t c) t.own
+    way_quiet false n t c = usual_quiet t.own.serving t.own.status n t c refl
+    way_quiet true n t c = by (Deferred plan barrier n t c)
+      where
+        way : Bool → Turn
+        way true = usual plan barrier t.own.serving t.own.status n t c
+        way false = at_once plan barrier t.own.withdraw
+
+        by : (b : Bool) → IfQuiet (way b) t.own
+        by true = usual_quiet t.own.serving t.own.status n t c refl
+        by false = at_once_quiet t.own.withdraw t
+
+    quiet_by : (status : Status) (n : ℕ) (t : TaskAt Seen) (c : All Seen) → IfQuiet (turn_by plan barrier status n t c) t.own
+    quiet_by Created n t c = tt
+    quiet_by Running n t c = way_quiet t.own.abnormal n t c
+    quiet_by Activating n t c = way_quiet t.own.abnormal n t c
+    quiet_by Accepting n t c = way_quiet t.own.abnormal n t c
+    quiet_by Delaying n t c = way_quiet t.own.abnormal n t c
+    quiet_by Calling n t c = way_quiet t.own.abnormal n t c
+    quiet_by Completed n t c = tt
+    quiet_by Terminated n t c = tt
+
     if_live : (u : Turn) (o : Own) → (is_terminated o.status ≡ false) × (is_created o.status ≡ false) → IfLive u o
     if_live resting o h = tt
     if_live closing o h = tt
     if_live completing o h = tt
     if_live (withdrawing object) o h = tt
     if_live (serving s) o h = h
+    if_live (restarting r) o h = h
     if_live (expiring delays) o h = tt
     if_live (cancelling id) o h = tt
     if_live (acting next) o h = h
@@ -59,16 +116,17 @@ module _ (pins : List ℕ) where
     live_by Completed n t c e = tt
     live_by Terminated n t c e = tt
 
-    taken_held : (limits : Limits) (u : Turn) (asked : Asked) (m : Move) (o : Own) (c : All Moved) → own_at pins c m.task ≡ o → IfLive u o → TurnFits u (IsPinned (around pins c.shared.objects)) o (in_action m.task c) asked → Held pins c → Held pins (turn_taken noted plan barrier limits u asked m c)
-    taken_held limits resting asked m o c e l h s = s
-    taken_held limits closing asked m o c e l h s = closes_held pins plan barrier m.task c (subst (λ (w : Own). LastIsMaster (bones w.opened) ⊎ AreKept (IsPinned (around pins c.shared.objects)) w) (sym e) h) s
-    taken_held limits completing asked m o c e l h s = completes_held pins plan barrier None m.task c s
-    taken_held limits (withdrawing object) asked m o c e l h s = held_tame pins c (effect.withdraws noted plan barrier object m.task c) (withdraws_tame plan barrier object m.task c) s
-    taken_held limits (serving x) asked m o c e l h s = serves_held pins plan barrier m.alternative x m.task c (subst (λ (w : Own). (is_terminated w.status ≡ false) × (is_created w.status ≡ false)) (sym e) l) s
-    taken_held limits (expiring delays) asked m o c e l h s = held_tame pins c (effect.delay_expires noted plan barrier (alternative_or_none m.alternative) m.task c) (goes_to_tame plan barrier (alternative_or_none m.alternative) m.task c) s
-    taken_held limits (cancelling id) asked m o c e l h s = held_tame pins c (effect.call_expires noted plan barrier m.task c) (call_expires_tame plan barrier m.task c) s
-    taken_held limits (acting next) asked m o c e l h s =
-        done_held pins plan barrier limits m.alternative asked m.task c (subst (λ (w : Own). (is_terminated w.status ≡ false) × (is_created w.status ≡ false)) (sym e) l)
+    taken_held : (limits : Limits) (u : Turn) (asked : Asked) (m : Move) (o : Own) (c : All Moved) → own_at pins c m.task ≡ o → IfQuiet u o → IfLive u o → TurnFits u (IsPinned (around pins c.shared.objects)) o (in_action m.task c) asked → Held pins c → Held pins (turn_taken noted plan barrier limits u asked m c)
+    taken_held limits resting asked m o c e q l h s = s
+    taken_held limits closing asked m o c e q l h s = closes_held pins plan barrier m.task c (subst (λ (w : Own). LastIsMaster (bones w.opened) ⊎ AreKept (IsPinned (around pins c.shared.objects)) w) (sym e) h) s
+    taken_held limits completing asked m o c e q l h s = completes_held pins plan barrier None m.task c s
+    taken_held limits (withdrawing object) asked m o c e q l h s = held_tame pins c (effect.withdraws noted plan barrier object m.task c) (withdraws_tame plan barrier object m.task c) s
+    taken_held limits (serving x) asked m o c e q l h s = serves_held pins plan barrier m.alternative x m.task c (subst (λ (w : Own). (is_terminated w.status ≡ false) × (is_created w.status ≡ false)) (sym e) l) s
+    taken_held limits (restarting x) asked m o c e q l h s = starts_again_held pins plan barrier x m.task c (subst (λ (w : Own). (is_terminated w.status ≡ false) × (is_created w.status ≡ false)) (sym e) l) s
+    taken_held limits (expiring delays) asked m o c e q l h s = held_tame pins c (effect.delay_expires noted plan barrier (alternative_or_none m.alternative) m.task c) (goes_to_tame plan barrier (alternative_or_none m.alternative) m.task c) s
+    taken_held limits (cancelling id) asked m o c e q l h s = held_tame pins c (effect.call_expires noted plan barrier m.task c) (call_expires_tame plan barrier m.task c) s
+    taken_held limits (acting next) asked m o c e q l h s =
+        done_held pins plan barrier limits m.alternative asked m.task c (subst (λ (w : Own). is_accepting w.status ≡ false) (sym e) q) (subst (λ (w : Own). (is_terminated w.status ≡ false) × (is_created w.status ≡ false)) (sym e) l)
         (subst (λ w. AskedFits (IsPinned (around pins c.shared.objects)) w (in_action m.task c) asked) (sym e) h) s
 
   module _ {C : Type 0} (plan : Plan) (k : Controls C) (limits : Limits) where
@@ -147,6 +205,7 @@ module _ (pins : List ℕ) where
         by (Some x) z g =
             let w : x.own ≡ t.own = sym (seen_own 0 m.task c.tasks (owns c.tasks) c.shared x z) ∙ got_own c.tasks m.task t e in
             taken_held plan k.barrier limits (turn plan k.barrier m.task x (seen plan k c)) asked m t.own d own_is
+            (subst (IfQuiet (turn plan k.barrier m.task x (seen plan k c))) w (quiet_by plan k.barrier x.own.status m.task x (seen plan k c)))
             (subst (IfLive (turn plan k.barrier m.task x (seen plan k c))) w (live_by plan k.barrier x.own.status m.task x (seen plan k c) refl)) g (bare_held (one_step_on c) s)
 
     pub step_stands : (c : All C) (m : Move) → Fits pins plan k m.task c → Stands pins c → Stands pins (step_with plan k limits c m)
@@ -274,6 +333,7 @@ each_of p (n ∷ ns) h = (h n (ap (λ b. b || contains n ns) (eq-eqb n n refl)),
 asked_kept : (pinned : ℕ → Type 0) (own : Own) (acts : Bool) (asked : Asked) → AreKept pinned own → EachIs pinned own.display → AskedFits pinned own acts asked
 asked_kept pinned own acts (goes_out loops value) h g = inr h
 asked_kept pinned own acts (next_of_loop f) h g = inr h
+asked_kept pinned own acts (requeues loops r) h g = inr h
 asked_kept pinned own acts (ends loops) h g = inr h
 asked_kept pinned own acts (declares_tasks at ts) h g = λ x y. inr g
 asked_kept pinned own acts asked h g = tt
@@ -284,6 +344,7 @@ turn_kept closing pinned own acts asked h g = inr h
 turn_kept completing pinned own acts asked h g = tt
 turn_kept (withdrawing object) pinned own acts asked h g = tt
 turn_kept (serving s) pinned own acts asked h g = tt
+turn_kept (restarting r) pinned own acts asked h g = tt
 turn_kept (expiring delays) pinned own acts asked h g = tt
 turn_kept (cancelling id) pinned own acts asked h g = tt
 turn_kept (acting next) pinned own acts asked h g = asked_kept pinned own acts asked h g

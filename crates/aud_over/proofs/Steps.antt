@@ -14,7 +14,7 @@ use Rattle.aud_meaning.specs.declared.state.Pending.{Pending}
 use Rattle.aud_meaning.specs.Configuration.{Own, TaskAt, All}
 use Rattle.aud_meaning.specs.Evaluation.{Sight, nearest_zero}
 use Rattle.aud_meaning.specs.Effects as own
-use Rattle.aud_meaning.specs.Control.{Called, Asked, raises_here, raises_in_part, declares, declares_array, declares_tasks, declares_object, ends_activation, activates, goes_on, assigns, puts, enters_loop, next_of_loop, goes_out, raises, raises_again, enters_block, calls_procedure, calls_operation, calls_own_entry, calls_entry, delays, accepts, selects, aborts, ends, handles, is_left_by, Moved, takes_part, passes_end, to_handler, out_by}
+use Rattle.aud_meaning.specs.Control.{Called, Asked, raises_here, raises_in_part, declares, declares_array, declares_tasks, declares_object, ends_activation, activates, goes_on, assigns, puts, enters_loop, next_of_loop, goes_out, raises, raises_again, enters_block, calls_procedure, calls_operation, calls_own_entry, calls_entry, delays, accepts, selects, aborts, ends, handles, is_left_by, Moved, takes_part, passes_end, to_handler, out_by, requeues}
 use Rattle.aud_meaning.specs.Tasks as effect
 use Rattle.aud_meaning.specs.Parts.{own_of, on_shared, alone, on_task}
 use Rattle.aud_meaning.specs.Step as step
@@ -23,7 +23,7 @@ use Rattle.aud_over.specs.Over.{with_kept}
 use Rattle.aud_over.proofs.Frames.{agree_length, agree_behind}
 use Rattle.aud_over.proofs.Calls.{EachOf}
 use Rattle.aud_over.proofs.Beside.{Kept, Beside, each_joined, beside, at_kept, if_beside, own_names, joined_objects, task_kept, own_kept, control_kept, alone_kept, one_more}
-use Rattle.aud_over.proofs.Effects.{names_out_of, names_handles, declared_one, variable_one, assigns_one, put_one, loop_entered_one, loop_continued_one, goes_out_one, block_one}
+use Rattle.aud_over.proofs.Effects.{names_out_of, names_handles, declared_one, variable_one, assigns_one, put_one, loop_entered_one, loop_continued_one, goes_out_one, block_one, requeue_one}
 use Rattle.aud_over.proofs.Tasks.{raised_kept, raises_in_part_kept, activation_ended_kept, activates_kept, declares_tasks_kept}
 use Rattle.aud_over.proofs.Constructs.{BarrierLooks, calls_procedure_kept, calls_task_kept, accepts_call_kept, selects_kept, delays_kept}
 use Rattle.aud_over.proofs.Objects.{calls_object_kept, calls_operation_kept, aborts_kept, at_end_kept}
@@ -67,10 +67,10 @@ module _ (p : Kept) (plan : Plan) (barrier : ℕ → Sight → Result Bool Raise
   made_kept alternative (owner.Task task) call n c d r = calls_task_kept p plan barrier alternative (call_record n (owner.Task task) call) task c d r
   made_kept alternative (owner.Object object) call n c d r = calls_object_kept p plan barrier through (call_record n (owner.Object object) call) object c d r
 
-  leaves_kept : (pending : Option Pending) (to : Moved → Moved) (n : ℕ) (c d : All Moved) → Beside p c d → Beside p (step.leaves noted plan barrier pending to n c) (step.leaves noted plan barrier pending to n d)
-  leaves_kept pending to n c d r =
+  leaves_kept : (alternative : Option ℕ) (pending : Option Pending) (to : Moved → Moved) (n : ℕ) (c d : All Moved) → Beside p c d → Beside p (step.leaves noted plan barrier alternative pending to n c) (step.leaves noted plan barrier alternative pending to n d)
+  leaves_kept alternative pending to n c d r =
       let f : TaskAt Moved → TaskAt Moved = λ t. record t { control = to t.control; own = record t.own { pending = None } } in
-      at_end_kept p plan barrier through pending n (on_task n f c) (on_task n f d) (task_kept p n f c d (λ t h. h) r)
+      at_end_kept p plan barrier through alternative pending n (on_task n f c) (on_task n f d) (task_kept p n f c d (λ t h. h) r)
 
   pub done_kept : (limits : Limits) (alternative : Option ℕ) (asked : Asked) (n : ℕ) (c d : All Moved) → Beside p c d → Beside p (done noted plan barrier limits alternative asked n c) (done noted plan barrier limits alternative asked n d)
   done_kept limits alternative (raises_here raise at) n c d r = raised_kept p raise at n c d r
@@ -107,8 +107,10 @@ module _ (p : Kept) (plan : Plan) (barrier : ℕ → Sight → Result Bool Raise
   done_kept limits alternative (accepts a) n c d r = accepts_call_kept p plan barrier a n c d r
   done_kept limits alternative (selects has_else waits at) n c d r = selects_kept p plan barrier alternative has_else waits at n c d r
   done_kept limits alternative (aborts ns at) n c d r = aborts_kept p plan barrier through ns at n c d r
+  done_kept limits alternative (requeues loops x) n c d r =
+      alone_kept p (λ t. step.out_of_loops noted plan barrier loops (step.requeued noted plan barrier x t)) n c d (requeue_one p plan barrier loops x) r
   done_kept limits alternative (ends loops) n c d r =
-      own_kept p n (own.out_of loops) (step.leaves noted plan barrier None passes_end n c) (step.leaves noted plan barrier None passes_end n d) (names_out_of p loops) (leaves_kept None passes_end n c d r)
+      own_kept p n (own.out_of loops) (step.leaves noted plan barrier alternative None passes_end n c) (step.leaves noted plan barrier alternative None passes_end n d) (names_out_of p loops) (leaves_kept alternative None passes_end n c d r)
   done_kept limits alternative (handles x) n c d r =
       task_kept p n (λ t. record t { control = to_handler x.exception t.control; own = own.handles x t.own }) c d (λ t h. names_handles p x t.own h) r
-  done_kept limits alternative (is_left_by x) n c d r = leaves_kept (Some x) (out_by x.exception) n c d r
+  done_kept limits alternative (is_left_by x) n c d r = leaves_kept alternative (Some x) (out_by x.exception) n c d r

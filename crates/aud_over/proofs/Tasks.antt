@@ -121,7 +121,7 @@ module _ (p : Kept) where
     pub terminate_kept : (n : ℕ) (c d : All Moved) → Beside p c d → Beside p (effect.terminate noted plan barrier n c) (effect.terminate noted plan barrier n d)
     terminate_kept n c d r =
         let f : Own → Own = λ own. record own { status = Terminated; pending = None; display = []; opened = []; waits = no_waits } in
-        refuse_queues_kept n (on_own n f c) (on_own n f d) (own_kept p n f c d (λ o h. (tt, tt)) r)
+        refuse_queues_kept n (on_own n f c) (on_own n f d) (own_kept p n f c d (λ o h. (tt, tt, h.2)) r)
 
     pub terminate_all_kept : (ns : List ℕ) (c d : All Moved) → Beside p c d → Beside p (effect.terminate_all noted plan barrier ns c) (effect.terminate_all noted plan barrier ns d)
     terminate_all_kept [] c d r = r
@@ -197,7 +197,7 @@ module _ (p : Kept) where
     created_names : (creator : Own) (ts : Tasks) (i count : ℕ) → Names p creator → TasksName p (effect.all_created noted plan barrier creator ts i count)
     created_names creator ts i zero h = tt
     created_names creator ts i (suc n) h =
-        ((each_taken p.named (unit_of plan _).level creator.display h.0, tt), created_names creator ts (suc i) n h)
+        ((each_taken p.named (unit_of plan _).level creator.display h.0, tt, tt), created_names creator ts (suc i) n h)
 
     abbrev with_more : List (TaskAt Moved) → All Moved → All Moved
     with_more ts c = record c { tasks = c.tasks ++ ts }

@@ -1,5 +1,6 @@
 -- Frames and calls that are over: what no step and no listing reads any more.
-use Rattle.std.specs.Prelude.{ℕ, suc, List, [], ◌∷◌, Bool, true, false, not, ◌||◌, nat_eq}
+use Rattle.std.specs.Prelude.{ℕ, suc, List, [], ◌∷◌, Bool, true, false, not, ◌||◌, Option, None, Some, nat_eq}
+use Rattle.aud_meaning.specs.declared.state.Restart.{Restart}
 use Rattle.aud_meaning.specs.declared.state.CallState.{CallState}
 use Rattle.aud_meaning.specs.declared.state.CallState.TheVariants.{Queued, Selected, Done, Cancelled}
 use Rattle.aud_meaning.specs.Configuration.{Frame, Purpose, for_entry, for_accept, Opened, Own, Call, Object, All}
@@ -33,8 +34,13 @@ is_for id (for_entry object i served back) = nat_eq id i
 is_for id (for_accept i) = nat_eq id i
 is_for id _ = false
 
+-- its acceptor makes it again, on an object, as its next step
+abbrev pub is_made_again : ℕ → Option Restart → Bool
+is_made_again id None = false
+is_made_again id (Some r) = nat_eq id r.call
+
 abbrev pub own_serves : ℕ → Own → Bool
-own_serves id own = any (λ (o : Opened). is_for id o.purpose) own.opened
+own_serves id own = is_made_again id own.restart || any (λ (o : Opened). is_for id o.purpose) own.opened
 
 abbrev pub is_served : List Own → ℕ → Bool
 is_served os id = any (own_serves id) os

@@ -6,10 +6,10 @@ use Rattle.aud_typed.specs.Tree.{Plan}
 use Rattle.aud_meaning.specs.declared.state.Status.{Status}
 use Rattle.aud_meaning.specs.Configuration.{Purpose, for_body, for_block, for_loop, for_procedure, for_operation, for_entry, for_accept, Opened, Own, Object, TaskAt, All}
 use Rattle.aud_meaning.specs.Effects.{out_of_loops}
-use Rattle.aud_meaning.specs.Control.{Seen, Asked, Controls, goes_out, next_of_loop, ends, declares_tasks}
+use Rattle.aud_meaning.specs.Control.{Seen, Asked, Controls, goes_out, next_of_loop, ends, declares_tasks, requeues}
 use Rattle.aud_meaning.specs.Parts.{contains, any, nobody, no_object, owns, in_action, is_created, is_terminated, is_master}
 use Rattle.aud_meaning.specs.declared.state.Move.{Move}
-use Rattle.aud_meaning.specs.Run.{Turn, resting, closing, completing, withdrawing, serving, expiring, cancelling, acting, turn, seen, scene_of, moves_at, step_with, opening_with}
+use Rattle.aud_meaning.specs.Run.{Turn, resting, closing, completing, withdrawing, serving, expiring, cancelling, acting, turn, seen, scene_of, moves_at, step_with, opening_with, restarting}
 use Rattle.aud_over.specs.Looks.{Looks}
 use Rattle.aud_over.specs.Law.{IsOneOf}
 use Rattle.aud_over.specs.Over.{object_names, is_named, is_served, frames_left, calls_left, with_kept, forgotten}
@@ -151,6 +151,7 @@ AreKept pinned own = (f : ℕ) → IsFrame f (bones own.opened) → pinned f
 -- protected action, which declares none. Else its frames are kept, or what it sees.
 abbrev pub AskedFits : (ℕ → Type 0) → Own → Bool → Asked → Type 0
 AskedFits pinned own acts (goes_out loops value) = LeavesNoMaster loops (bones own.opened) ⊎ AreKept pinned own
+AskedFits pinned own acts (requeues loops r) = LeavesNoMaster loops (bones own.opened) ⊎ AreKept pinned own
 AskedFits pinned own acts (next_of_loop f) = LeavesNoMaster 1 (bones own.opened) ⊎ AreKept pinned own
 AskedFits pinned own acts (ends loops) = LeavesFit loops (out_of_loops own).opened ⊎ AreKept pinned own
 AskedFits pinned own acts (declares_tasks at ts) = nat_eq ts.length 0 ≡ false → acts ≡ false → FirstIsMaster (bones own.opened) ⊎ EachIs pinned own.display
@@ -163,6 +164,7 @@ TurnFits closing pinned own acts asked = LastIsMaster (bones own.opened) ⊎ Are
 TurnFits completing pinned own acts asked = Unit {0}
 TurnFits (withdrawing object) pinned own acts asked = Unit {0}
 TurnFits (serving s) pinned own acts asked = Unit {0}
+TurnFits (restarting r) pinned own acts asked = Unit {0}
 TurnFits (expiring delays) pinned own acts asked = Unit {0}
 TurnFits (cancelling id) pinned own acts asked = Unit {0}
 TurnFits (acting next) pinned own acts asked = AskedFits pinned own acts asked

@@ -266,6 +266,15 @@ abort_items b begin first v ds h =
     ap (λ z. a_statement (m.abort (place begin) (plain_name first.value) z) ∷ ds) (names_are v.items)
     ∙ ap (λ z. a_statement z ∷ ds) (sym h)
 
+-- requeue statements
+
+pub requeue_items : (b : Box Statement Global) (begin : Item) (x : Box Name Global) (with_abort : Bool) (ds : List Item) →
+    b.value ≡ statement.Requeue (place begin) x with_abort →
+    made g.Requeue (begin ∷ name_item x ∷ mark_item with_abort ∷ ds) ≡ boxed_statement_item b ∷ ds
+requeue_items b begin x with_abort ds h =
+    ap (λ z. a_statement (m.requeue (place begin) (plain_name x.value) z) ∷ ds) (mark_is with_abort)
+    ∙ boxed_items b (statement.Requeue (place begin) x with_abort) ds h
+
 -- tasks
 
 definition_is : (x : Option TaskDefinition) → opt_definition (opt_item definition_item x) ≡ plain_definition x

@@ -13,6 +13,7 @@ mod operation;
 mod operation_head;
 mod parser;
 mod protected;
+mod requeue;
 mod scheme;
 mod select;
 mod statement;

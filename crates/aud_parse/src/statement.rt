@@ -34,6 +34,7 @@ use crate::formals::{head, specification};
 use crate::operation::OPERATIONS;
 use crate::operation_head::operation_head;
 use crate::protected::{end_protected_body, protected_declaration};
+use crate::requeue::requeue;
 use crate::scheme::{Scheme, opt_scheme};
 use crate::select::{Form, Seen, first_form, next_form, opt_guard, terminate_alternative};
 use crate::task::task_declaration;
@@ -56,7 +57,7 @@ const DECLARATIONS: [Kind; 4] = [
     Kind::Protected,
 ];
 
-const STATEMENTS: [Kind; 15] = [
+const STATEMENTS: [Kind; 16] = [
     Kind::Null,
     Kind::Identifier,
     Kind::If,
@@ -72,6 +73,7 @@ const STATEMENTS: [Kind; 15] = [
     Kind::Delay,
     Kind::Select,
     Kind::Abort,
+    Kind::Requeue,
 ];
 
 const LOOPS: [Kind; 3] = [Kind::While, Kind::For, Kind::Loop];
@@ -733,7 +735,10 @@ fn statement(alloc: Global, start: Rest, room: u32) -> Read<Box<Statement>>
     if is(start, Kind::Select) {
         return select(alloc, start, room);
     }
-    abort(alloc, start, room)
+    if is(start, Kind::Abort) {
+        return abort(alloc, start, room);
+    }
+    requeue(alloc, start, room)
 }
 
 /// The further statements.

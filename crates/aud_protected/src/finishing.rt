@@ -1,6 +1,6 @@
 // The ends of the bodies of objects (RM 9.5.1, 9.5.2(24), 9.5.3).
 
-ghost use Rattle.std.specs.Prelude.{◌≡◌, ◌+◌, ◌≤◌, ℕ, Bool, List, Result, OnOk, IfOk};
+ghost use Rattle.std.specs.Prelude.{◌≡◌, ◌+◌, ◌≤◌, ℕ, None, Bool, List, Result, OnOk, IfOk};
 ghost use Rattle.aud_text.specs.declared.raise.Raise.{Raise as RaiseOf};
 ghost use Rattle.aud_typed.specs.Tree.{Plan};
 ghost use Rattle.aud_meaning.specs.Configuration.{Back as BackOf};
@@ -14,7 +14,7 @@ ghost use Rattle.aud_protected.specs.Counting.{most_asked};
 use crate::barriers::Barriers;
 use crate::servicing::service;
 use aud_code::sound_code::SoundCode;
-use aud_meaning::state::{Pending, Resumed};
+use aud_meaning::state::{Again, Owner, Pending, Resumed};
 use aud_state::state::State;
 use aud_store::purpose::Returns;
 use aud_store::stack::Open;
@@ -100,8 +100,8 @@ fn return_from(
 }
 
 /// The end of an entry body for a call, whose frame is the innermost one of the task: the caller goes on behind the
-/// call, or has the exception pending there, whichever task has done the body. That goes back to what it was at, and
-/// services the object (RM 9.5.2(24), 9.5.3(13, 16)).
+/// call, or has the exception pending there, whichever task has done the body; or the call is queued again, on an entry of the same
+/// object (RM 9.5.4(12)). The task goes back to what it was at, and services the object (RM 9.5.2(24), 9.5.3(13, 16)).
 ///
 /// # Errors
 ///
@@ -128,27 +128,82 @@ pub fn finish_entry<B: Barriers>(
         (B.barrier barriers.old) pending object id resumed (plain_open inner saved backs) n
         state.old) }
 {
+    let again = state.again(n);
     let values = state.formals(alloc, id, inner.frame)?;
     state.go_back(n, resumed);
-    end_call(state, code, pending, &values, id);
+    end_call(state, code, pending, again, values, object, id)?;
     service(state, alloc, code, barriers, object, inner.at, n)?;
     Ok(())
 }
 
-// The call of an entry body that has ended is over.
+// The call of an entry body that has ended is over, or is made again.
 fn end_call(
     state: &mut State,
     code: &SoundCode,
     pending: Option<Pending>,
-    values: &[Int32],
+    again: Option<Again>,
+    values: Vec<Int32>,
+    object: usize,
     id: usize,
-)
-    ensures { (plan : Plan) → (barrier : ℕ → Sight → Result Bool RaiseOf) →
-        state.new ≡ effect.end_call (going code.now) plan barrier
-        (effect.entry_outcome (going code.now) plan barrier pending values.now) id state.old }
+) -> Result<(), AllocError>
+    ensures { OnOk result ((plan : Plan) → (barrier : ℕ → Sight → Result Bool RaiseOf) →
+        state.new ≡ effect.entry_ended (going code.now) plan barrier pending again values.items
+        object id state.old) }
 {
     match pending {
-        None => state.succeed(code, values, id),
-        Some(pending) => state.caller_fails(code, id, pending.exception),
+        None => {
+            end_normally(state, code, again, values, object, id)?;
+            Ok(())
+        }
+        Some(pending) => {
+            state.caller_fails(code, id, pending.exception);
+            Ok(())
+        }
     }
+}
+
+// The same, where nothing is pending.
+fn end_normally(
+    state: &mut State,
+    code: &SoundCode,
+    again: Option<Again>,
+    values: Vec<Int32>,
+    object: usize,
+    id: usize,
+) -> Result<(), AllocError>
+    ensures { OnOk result ((plan : Plan) → (barrier : ℕ → Sight → Result Bool RaiseOf) →
+        state.new ≡ effect.entry_ended (going code.now) plan barrier None again values.items
+        object id state.old) }
+{
+    match again {
+        None => {
+            state.succeed(code, &values, id);
+            Ok(())
+        }
+        Some(again) => {
+            state.retarget_call(id, again, values)?;
+            queue_again(state, code, object, id)?;
+            Ok(())
+        }
+    }
+}
+
+// A call that is made again arrives on an entry of the object; it is cancelled where its caller is abnormal and it does not stay.
+fn queue_again(
+    state: &mut State,
+    code: &SoundCode,
+    object: usize,
+    id: usize,
+) -> Result<(), AllocError>
+    ensures { OnOk result ((plan : Plan) → (barrier : ℕ → Sight → Result Bool RaiseOf) →
+        state.new ≡ effect.queued_again (going code.now) plan barrier object id state.old) }
+{
+    let _ = code;
+    if state.is_lost(id) {
+        state.cancel_call(id);
+        return Ok(());
+    }
+    state.call_on(id, Owner::Object(object))?;
+    state.arrive(id)?;
+    Ok(())
 }

@@ -5,7 +5,7 @@ ghost use Rattle.aud_text.specs.declared.raise.Raise.{Raise as RaiseOf};
 ghost use Rattle.aud_typed.specs.Tree.{Plan};
 ghost use Rattle.aud_meaning.specs.Evaluation.{Sight};
 ghost use Rattle.aud_meaning.specs.Orders.{Orders};
-ghost use Rattle.aud_meaning.specs.Parts.{in_the_way, object_of};
+ghost use Rattle.aud_meaning.specs.Parts.{call_of, cancels, in_the_way, object_of, on_own};
 ghost use Rattle.aud_meaning.specs.Tasks as effect;
 ghost use Rattle.aud_code.specs.Control.{going};
 ghost use Rattle.aud_code.specs.Places.{Spot};
@@ -17,7 +17,7 @@ use crate::barriers::Barriers;
 use crate::entering::{display_of, enter_entry, open};
 use crate::servicing::service;
 use aud_code::sound_code::SoundCode;
-use aud_meaning::state::Form;
+use aud_meaning::state::{Form, Owner, Restart};
 use aud_state::calls::NewCall;
 use aud_state::state::State;
 use aud_store::purpose::{Purpose, Returns};
@@ -69,6 +69,51 @@ pub fn call<B: Barriers>(
     state.begin_action(n, object, false)?;
     meet(state, alloc, code, barriers, met, at, object, id, n)?;
     Ok(())
+}
+
+/// The step start of a task whose accept makes a call again on an object: where the barrier holds, the task itself enters the body;
+/// else the call is queued and the object serviced. It is cancelled where its caller is abnormal and it does not stay (RM 9.5.4(13, 17)).
+///
+/// # Errors
+///
+/// Where memory is refused. Nothing is said of the state then.
+pub fn start_again<B: Barriers>(
+    state: &mut State,
+    alloc: Global,
+    code: &SoundCode,
+    barriers: &mut B,
+    restart: Restart,
+    n: usize,
+) -> Result<(), AllocError>
+    ensures of_one { B.plan barriers.new ≡ B.plan barriers.old }
+    ensures kept { B.barrier barriers.new ≡ B.barrier barriers.old }
+    ensures costs { B.cost barriers.new ≡ B.cost barriers.old }
+    ensures few { IfOk result (λ _. B.spent barriers.new ≤ B.spent barriers.old
+        + B.cost barriers.old (call_of restart.call state.old).entry
+        + most_asked (B.cost barriers.old) (B.plan barriers.old)) }
+    ensures does { OnOk result (state.new ≡ effect.starts_again (going code.now)
+        (B.plan barriers.old) (B.barrier barriers.old) restart n state.old) }
+{
+    let id = restart.call;
+    let object = restart.object;
+    if state.is_lost(id) {
+        lose(state, id, n);
+        return Ok(());
+    }
+    let met = barriers.barrier(state, object, state.call_entry(id))?;
+    state.clear_restart(n);
+    state.call_on(id, Owner::Object(object))?;
+    state.begin_action(n, object, false)?;
+    meet(state, alloc, code, barriers, met, restart.at, object, id, n)?;
+    Ok(())
+}
+
+// A call that a task was to make again is cancelled instead.
+fn lose(state: &mut State, id: usize, n: usize)
+    ensures { state.new ≡ cancels id (on_own n (λ own. record own { restart = None }) state.old) }
+{
+    state.clear_restart(n);
+    state.cancel_call(id);
 }
 
 // A call is made on an entry with this barrier, by a task that has the object's action.

@@ -54,14 +54,15 @@ pub(crate) fn meet(
         state.new ≡ effect.rendezvous (going code.now) plan barrier accept id n state.old) }
 {
     state.select_call(id);
-    let values = state.values(alloc, id)?;
     match accept.region {
         None => {
+            let values = state.all_values(alloc, id)?;
             state.resume(code, n, accept.alternative);
             state.succeed(code, &values, id);
             Ok(())
         }
         Some(region) => {
+            let values = state.values(alloc, id)?;
             state.accept_body(code, n, accept.alternative);
             state.open_accept(alloc, n, id, region, accept.at, &values)?;
             Ok(())

@@ -7,7 +7,7 @@ use Rattle.aud_text.specs.declared.raise.Raise.TheVariants.{Storage}
 use Rattle.aud_typed.specs.declared.program.Exception.TheVariants.{Predefined}
 use Rattle.aud_typed.specs.Tree.{Plan, For}
 use Rattle.aud_meaning.specs.Configuration.{Acting, for_loop}
-use Rattle.aud_meaning.specs.Control.{Asked, Moved, Scene, here, takes_part, enters_body, gets_out, to_handler, moved, raises_here, raises_in_part, declares, declares_array, declares_tasks, declares_object, ends_activation, activates, goes_on, assigns, puts, enters_loop, next_of_loop, goes_out, raises, raises_again, enters_block, calls_procedure, calls_operation, calls_own_entry, calls_entry, delays, accepts, selects, aborts, ends, handles, is_left_by}
+use Rattle.aud_meaning.specs.Control.{Asked, Moved, Scene, here, takes_part, enters_body, gets_out, to_handler, moved, raises_here, raises_in_part, declares, declares_array, declares_tasks, declares_object, ends_activation, activates, goes_on, assigns, puts, enters_loop, next_of_loop, goes_out, raises, raises_again, enters_block, calls_procedure, calls_operation, calls_own_entry, calls_entry, delays, accepts, selects, aborts, requeues, ends, handles, is_left_by}
 use Rattle.aud_meaning.specs.Evaluation.{Sight}
 use Rattle.aud_meaning.specs.Effects as own
 use Rattle.aud_meaning.specs.Step.{for_first, for_step, has_next, if_room, loop_cell, loop_entered, loop_continued, moves_on, variable_declared, with_function_value}
@@ -134,6 +134,7 @@ module _ (code : Flat) (plan : Plan) (barrier : ℕ → Sight → Result Bool Ra
   acts_goes (accepts a) t = (here, refl)
   acts_goes (selects has_else w at) t = (here, refl)
   acts_goes (aborts ns at) t = (here, refl)
+  acts_goes (requeues loops r) t = (gets_out here, refl)
   acts_goes (ends loops) t = (here, refl)
   acts_goes (is_left_by p) t = (here, refl)
 

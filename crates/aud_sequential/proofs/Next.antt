@@ -48,6 +48,8 @@ of_kind plan stack (Concerns (among.CallObject v entry form otherwise) next) s x
 of_kind plan stack (Concerns (among.Operation v unit) next) s x = refl
 of_kind plan stack (Concerns among.Delay next) s x = refl
 of_kind plan stack (Concerns among.Abort next) s x = refl
+of_kind plan stack (Concerns (among.RequeueTask r w) next) s x = refl
+of_kind plan stack (Concerns (among.RequeueObject v r w) next) s x = refl
 of_kind plan stack (Concerns (among.Accept entry region body) next) s x = refl
 of_kind plan stack (Concerns (among.Select has_else own offers) next) s x = refl
 of_kind plan stack (Continues f behind inside) s x = refl

@@ -50,6 +50,8 @@ among_kind among.Delay = kind.Delay
 among_kind (among.Accept entry region body) = kind.Accept
 among_kind (among.Select has_else own offers) = kind.Select
 among_kind among.Abort = kind.Abort
+among_kind (among.RequeueTask r w) = kind.Requeue
+among_kind (among.RequeueObject v r w) = kind.Requeue
 
 -- the kind of a step, by how it ends, with that of the step which leaves the innermost construct
 abbrev pub step_kind : Last → StepKind → StepKind

@@ -31,6 +31,7 @@ fn among_kind(among: &Among) -> StepKind
         Among::Accept { .. } => StepKind::Accept,
         Among::Select { .. } => StepKind::Select,
         Among::Abort => StepKind::Abort,
+        Among::RequeueTask { .. } | Among::RequeueObject { .. } => StepKind::Requeue,
     }
 }
 

@@ -18,7 +18,14 @@ or_joined : (a b c : Bool) → ((a || b) || c) ≡ (a || (b || c))
 or_joined true b c = refl
 or_joined false b c = refl
 
-append_names : (f : ℕ) (xs ys : List ℕ) → contains f (xs ++ ys) ≡ (contains f xs || contains f ys)
+pub turned_behind : (a b c : Bool) → ((a || b) || c) ≡ (a || (c || b))
+turned_behind true b c = refl
+turned_behind false true true = refl
+turned_behind false true false = refl
+turned_behind false false true = refl
+turned_behind false false false = refl
+
+pub append_names : (f : ℕ) (xs ys : List ℕ) → contains f (xs ++ ys) ≡ (contains f xs || contains f ys)
 append_names f [] ys = refl
 append_names f (x ∷ xs) ys = ap (λ b. nat_eq f x || b) (append_names f xs ys) ∙ sym (or_joined (nat_eq f x) (contains f xs) (contains f ys))
 

@@ -14,9 +14,9 @@ oldest (w ∷ ws) = Some w.call
 abbrev pub is_at : ℕ → ℕ → Call → Bool
 is_at owner entry c = is_queued c.state && nat_eq c.entry entry && nat_eq (owner_number c.owner) owner
 
--- those that a task has made and that are queued
+-- those that a task has made and that are queued, but for those that stay
 abbrev pub calls_by : ℕ → List Call → List ℕ
-calls_by caller calls = numbers (λ (c : Call). is_queued c.state && nat_eq c.caller caller) 0 calls
+calls_by caller calls = numbers (λ (c : Call). is_queued c.state && nat_eq c.caller caller && not c.stays) 0 calls
 
 -- it is the queue of this entry
 abbrev pub is_of : ℕ → ℕ → Queue → Bool

@@ -1,5 +1,5 @@
 -- What is read of one task.
-use Rattle.std.specs.Prelude.{◌≡◌, ℕ, Option, Some, None, Bool, true, false, ◌&&◌, if◌then◌else◌}
+use Rattle.std.specs.Prelude.{◌≡◌, ℕ, Option, Some, None, Bool, true, false, ◌&&◌, not, if◌then◌else◌}
 use Rattle.aud_text.specs.declared.place.Pos.{Pos}
 use Rattle.aud_typed.specs.Tree.{Plan}
 use Rattle.aud_meaning.specs.declared.state.Form.{Form}
@@ -18,11 +18,12 @@ use Rattle.aud_code.specs.Flat.{Flat, coming_at}
 use Rattle.aud_code.specs.Places.{Spot}
 use Rattle.aud_sequential.specs.Next.{place_in}
 
--- it runs, is not abnormal and services no object
+-- it runs, is not abnormal, services no object and makes no other task's call again
 pub record IsPlain (own : Own) : Type 0 where
   pub runs : own.status ≡ Running
   pub normal : own.abnormal ≡ false
   pub free : own.serving ≡ None
+  pub settled : own.restart ≡ None
 
 -- what comes next of a task's own statements
 abbrev pub coming_by : Flat → Plan → Sight → Option (TaskAt Spot) → Coming
@@ -50,7 +51,7 @@ abbrev pub place_by : Flat → Option (TaskAt Spot) → Pos
 place_by code None = record { line = 0; col = 0 }
 place_by code (Some t) = place_in code t.control.place t.own.pending
 
--- the time from which on a call can be cancelled, while it is queued and no action is under way on its object (RM 9.7.2)
+-- the time from which on a call can be cancelled that does not stay, while it is queued and no action is under way on its object (RM 9.7.2)
 abbrev pub time_by : Form → Option ℕ
 time_by Plain = None
 time_by (Conditional time) = None
@@ -61,4 +62,4 @@ is_free (owner.Task m) c = true
 is_free (owner.Object o) c = is_idle (object_of o c)
 
 abbrev pub cancelled_from : Call → All Spot → Option ℕ
-cancelled_from call c = if is_queued call.state && is_free call.owner c then time_by call.form else None
+cancelled_from call c = if is_queued call.state && not call.stays && is_free call.owner c then time_by call.form else None

@@ -1,5 +1,5 @@
 -- All tasks with what they share in memory, as a configuration.
-use Rattle.std.specs.Prelude.{ℕ, ℤ, List, [], ◌∷◌, ◌++◌, length, map, Option, Some, None, if◌then◌else◌}
+use Rattle.std.specs.Prelude.{ℕ, ℤ, List, [], ◌∷◌, ◌++◌, length, map, Option, Some, None, false, if◌then◌else◌}
 use Rattle.aud_text.specs.declared.raise.Raise.TheVariants.{Tasking}
 use Rattle.aud_typed.specs.declared.program.Exception.TheVariants.{Predefined}
 use Rattle.aud_meaning.specs.declared.state.Pending.{Pending}
@@ -47,6 +47,8 @@ plain_own t = record nobody {
   waits = t.condition.waits;
   call = t.call;
   serving = t.condition.serving;
+  again = t.again;
+  restart = t.restart;
   abnormal = t.condition.abnormal;
   withdraw = t.withdraw;
 }
@@ -55,7 +57,7 @@ abbrev pub plain_task : Task → TaskAt Spot
 plain_task t = record { control = t.parked.control; own = within_own (plain_own t) t.parked.pending t.parked.stack }
 
 abbrev pub plain_call : Call → meaning.Call
-plain_call c = record { caller = c.caller; owner = c.owner; entry = c.entry; arrival = c.arrival; values = c.values.items; backs = c.backs.items; form = c.form; at = c.at; state = c.state }
+plain_call c = record { caller = c.caller; owner = c.owner; entry = c.entry; arrival = c.arrival; values = c.values.items; unseen = c.unseen.items; backs = c.backs.items; form = c.form; stays = c.stays; at = c.at; state = c.state }
 
 -- of one that is given back only that is known
 abbrev pub plain_slot : Slot → meaning.Call
@@ -68,7 +70,7 @@ IsKept (GivenBack state) = ⊥
 
 -- one that is made just now
 abbrev pub made_call : NewCall → meaning.Call
-made_call c = record { caller = c.caller; owner = c.owner; entry = c.entry; arrival = 0; values = c.values.items; backs = c.backs.items; form = c.form; at = c.at; state = Selected }
+made_call c = record { caller = c.caller; owner = c.owner; entry = c.entry; arrival = 0; values = c.values.items; unseen = []; backs = c.backs.items; form = c.form; stays = false; at = c.at; state = Selected }
 
 abbrev pub plain_object : Object → meaning.Object
 plain_object o = record { declaration = o.declaration; display = o.display.items; actions = o.actions.items }
@@ -103,7 +105,11 @@ begins_entry go unit t = record { control = go.enters unit t.control; own = reco
 
 -- out of an entry body it goes back to what it was at
 abbrev pub goes_back : Resumed → Own → Own
-goes_back back own = record (closed own) { status = back.status; pending = back.pending }
+goes_back back own = record (closed own) { status = back.status; pending = back.pending; again = None }
+
+-- out of what an accept does
+abbrev pub leaves_accept : Own → Own
+leaves_accept own = record (closed own) { again = None }
 
 -- all activations have ended for which it waited
 abbrev pub goes_on_behind : Orders Spot → TaskAt Spot → TaskAt Spot

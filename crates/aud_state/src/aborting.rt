@@ -77,7 +77,7 @@ impl State {
         }
     }
 
-    /// The calls of a task that are queued, by their numbers.
+    /// The calls of a task that are queued, but for those that stay, by their numbers.
     ///
     /// # Errors
     ///

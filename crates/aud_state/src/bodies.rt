@@ -82,6 +82,7 @@ impl Task {
         self.parked.close();
         self.parked.set_pending(resumed.pending);
         self.condition.come_to(resumed.status);
+        self.again = None;
     }
 }
 

@@ -1,10 +1,12 @@
 // Entry calls (RM 9.5.3).
 
-ghost use Rattle.std.specs.Prelude.{◌≡◌, ℕ, suc, [], ◌∷◌, ◌++◌, false, if◌then◌else◌, IfNone, IfOk, IfSome, OnOk, length, map, slice_index_or};
+ghost use Rattle.std.specs.Prelude.{◌≡◌, ℕ, suc, [], ◌∷◌, ◌++◌, ◌&&◌, false, nat_eq, if◌then◌else◌, IfNone, IfOk, IfSome, OnOk, length, map, slice_index_or};
 ghost use Rattle.aud_meaning.specs.Parts.{calls_on_object, calls_on_task, changed, contains, is_object, is_queued, is_task, no_call, numbers, owner_number, queue, Waiting};
 ghost use Rattle.aud_over.specs.Over.{calls_left};
 ghost use Rattle.aud_state.specs.Queues.{calls_by, is_at, oldest, waiting, without};
 ghost use Rattle.aud_state.specs.View.{made_call, plain_call, plain_slot};
+
+mod again;
 
 use crate::queues::Queues;
 use crate::slot::Slot;
@@ -23,8 +25,9 @@ const CALL: usize = 40;
 
 const BACK: usize = 8;
 
-/// An entry call: whose it is, the entry that it is queued on now, the number of its arrival there, the formals' values, what is
-/// copied back, where it stands, and how far it is.
+/// An entry call: whose it is, the entry that it is queued on now, the number of its arrival there, the formals' values, those of
+/// formals that this entry has not, what is copied back, whether it stays on its queue whatever happens to its caller (RM 9.5.4),
+/// where it stands, and how far it is.
 #[derive(Drop)]
 pub struct Call {
     pub caller: usize,
@@ -32,8 +35,10 @@ pub struct Call {
     pub entry: usize,
     pub arrival: usize,
     pub values: Vec<Int32>,
+    pub unseen: Vec<Int32>,
     pub backs: Vec<Back>,
     pub form: Form,
+    pub stays: bool,
     pub at: Pos,
     pub state: CallState,
 }
@@ -61,7 +66,7 @@ impl NewCall {
 
 impl Call {
     /// One that was made just now.
-    pub(crate) fn of_new(call: NewCall) -> Self
+    pub(crate) fn of_new(alloc: Global, call: NewCall) -> Self
         ensures { plain_call result ≡ made_call call }
     {
         let NewCall {
@@ -79,8 +84,10 @@ impl Call {
             entry,
             arrival: 0,
             values,
+            unseen: Vec::new(alloc),
             backs,
             form,
+            stays: false,
             at,
             state: CallState::Selected,
         }
@@ -92,12 +99,14 @@ impl Call {
     {
         Call {
             caller: 0,
-            owner: Owner::Task(0),
+            owner: Owner::Object(0),
             entry: 0,
             arrival: 0,
             values: Vec::new(alloc),
+            unseen: Vec::new(alloc),
             backs: Vec::new(alloc),
             form: Form::Plain,
+            stays: false,
             at: Pos { line: 0, col: 0 },
             state,
         }
@@ -319,7 +328,7 @@ impl Calls {
     {
         match self.kept(id) {
             Some(call) => call.owner,
-            None => Owner::Task(0),
+            None => Owner::Object(0),
         }
     }
 
@@ -350,6 +359,26 @@ impl Calls {
         match self.kept(id) {
             Some(call) => &call.values,
             None => &[],
+        }
+    }
+
+    /// Those of formals that its entry has not.
+    pub(crate) fn unseen(&self, id: usize) -> &[Int32]
+        ensures { result.now ≡ (slice_index_or self.now.calls id no_call).unseen }
+    {
+        match self.kept(id) {
+            Some(call) => &call.unseen,
+            None => &[],
+        }
+    }
+
+    /// Whether it stays on its queue whatever happens to its caller.
+    pub(crate) fn stays(&self, id: usize) -> bool
+        ensures { result ≡ (slice_index_or self.now.calls id no_call).stays }
+    {
+        match self.kept(id) {
+            Some(call) => call.stays,
+            None => false,
         }
     }
 
@@ -402,9 +431,19 @@ impl Calls {
         Ok(ids)
     }
 
-    /// Those of a task that are queued, by their numbers.
+    /// Those of a task that are queued, but for those that stay, by their numbers.
     pub(crate) fn queued_by(&self, alloc: Global, caller: usize) -> Result<Vec<usize>, AllocError>
         ensures { IfOk result (λ ids. ids.items ≡ calls_by caller self.now.calls) }
+    {
+        let mut ids = self.all_by(alloc, caller)?;
+        ids.retain(|id| !self.stays(*id));
+        Ok(ids)
+    }
+
+    // All of a task that are queued, by their numbers.
+    fn all_by(&self, alloc: Global, caller: usize) -> Result<Vec<usize>, AllocError>
+        ensures { IfOk result (λ ids. ids.items ≡
+            numbers (λ c. is_queued c.state && nat_eq c.caller caller) 0 self.now.calls) }
     {
         let mut ids = self.all_queued(alloc)?;
         ids.retain(|id| self.caller(*id) == caller);

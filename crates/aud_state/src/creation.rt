@@ -119,6 +119,8 @@ fn created(
         at: Pos { line: 0, col: 0 },
         condition,
         call: 0,
+        again: None,
+        restart: None,
         withdraw: None,
     })
 }

@@ -2,7 +2,7 @@
 
 ghost use Rattle.std.specs.Prelude.{◌≡◌, ◌||◌, ℕ, [], true, if◌then◌else◌, map, slice_index_or, IfOk, OnOk, OnErr};
 ghost use Rattle.aud_meaning.specs.Parts.{any, contains, is_terminated, owns, with_frames};
-ghost use Rattle.aud_over.specs.Over.{forgotten, is_served, object_names, own_serves};
+ghost use Rattle.aud_over.specs.Over.{forgotten, is_made_again, is_served, object_names, own_serves};
 ghost use Rattle.aud_state.specs.Held.{calls_given_back, given_back, is_held, keeps};
 ghost use Rattle.aud_state.specs.View.{plain_object, plain_task};
 
@@ -46,7 +46,7 @@ impl State {
         self.calls.is_due()
     }
 
-    /// Gives back the calls that are over and for which no frame is open. Nothing depends on them any more. All others
+    /// Gives back the calls that are over, for which no frame is open, and which no task makes again. Nothing depends on them any more. All others
     /// stay as they are, and all keep their numbers.
     ///
     /// # Errors
@@ -75,14 +75,29 @@ impl Task {
         Ok(())
     }
 
-    // Puts the calls for which it has frames open after others.
+    // Puts the calls for which it has frames open after others, and the one that it makes again.
     fn put_served(&self, alloc: Global, served: &mut Vec<usize>) -> Result<(), AllocError>
         ensures { OnOk result ((id : ℕ) → contains id served.new.items ≡
             (contains id served.old.items || own_serves id (plain_task self.now).own)) }
     {
         let own = self.parked.stack().served(alloc)?;
         served.extend_from_slice(&own)?;
+        self.put_restart(served)?;
         Ok(())
+    }
+
+    // Puts the call that it makes again on an object after others.
+    fn put_restart(&self, served: &mut Vec<usize>) -> Result<(), AllocError>
+        ensures { OnOk result ((id : ℕ) → contains id served.new.items ≡
+            (contains id served.old.items || is_made_again id self.now.restart)) }
+    {
+        match self.restart {
+            None => Ok(()),
+            Some(restart) => {
+                served.push(restart.call)?;
+                Ok(())
+            }
+        }
     }
 
     // The masters on which it depends, unless it is terminated.
@@ -110,7 +125,7 @@ fn kept_by_tasks(alloc: Global, tasks: &[Task]) -> Result<Vec<usize>, AllocError
     Ok(kept)
 }
 
-// The calls for which these tasks have frames open.
+// The calls for which these tasks have frames open, and those that they make again.
 fn served_by_tasks(alloc: Global, tasks: &[Task]) -> Result<Vec<usize>, AllocError>
     ensures { IfOk result (λ served. (id : ℕ) →
         contains id served.items ≡ is_served (owns (map plain_task tasks.now)) id) }

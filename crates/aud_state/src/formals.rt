@@ -1,6 +1,6 @@
 // The formals of entry calls (RM 6.4.1).
 
-ghost use Rattle.std.specs.Prelude.{◌≡◌, ℕ, Bool, Result, IfOk, length, take};
+ghost use Rattle.std.specs.Prelude.{◌≡◌, ◌++◌, ℕ, Bool, Result, IfOk, take};
 ghost use Rattle.aud_text.specs.declared.raise.Raise.{Raise as RaiseOf};
 ghost use Rattle.aud_typed.specs.Tree.{Plan};
 ghost use Rattle.aud_meaning.specs.Evaluation.{Sight};
@@ -35,7 +35,21 @@ impl State {
         Ok(values)
     }
 
-    /// The values of a call's formals now, which are the first variables of this frame.
+    /// The values of all formals with which a call was made, those last that its entry has not.
+    ///
+    /// # Errors
+    ///
+    /// Where memory is refused.
+    pub fn all_values(&self, alloc: Global, id: usize) -> Result<Vec<Int32>, AllocError>
+        ensures { IfOk result (λ values. values.items ≡
+            (call_of id self.now).values ++ (call_of id self.now).unseen) }
+    {
+        let mut values = self.values(alloc, id)?;
+        values.extend_from_slice(self.calls.unseen(id))?;
+        Ok(values)
+    }
+
+    /// The values of all formals of a call now: the first variables of this frame, and those that its entry has not.
     ///
     /// # Errors
     ///
@@ -43,13 +57,13 @@ impl State {
     pub fn formals(&self, alloc: Global, id: usize, frame: usize) -> Result<Vec<Int32>, AllocError>
         ensures { IfOk result (λ values. (go : Orders Spot) → (plan : Plan) →
             (barrier : ℕ → Sight → Result Bool RaiseOf) → values.items ≡
-            effect.formals_now go plan barrier frame (length (call_of id self.now).values)
-            self.now) }
+            effect.present_values go plan barrier id frame self.now) }
     {
         let cells = self.frame(frame);
         let count = self.calls.values(id).len();
         let mut values = Vec::new(alloc);
         values.extend_from_slice(first_of(cells, count))?;
+        values.extend_from_slice(self.calls.unseen(id))?;
         Ok(values)
     }
 }

@@ -22,6 +22,7 @@ pub mod object;
 mod opening;
 mod queues;
 pub mod reads;
+mod requeue;
 mod resting;
 mod returning;
 mod seen;

@@ -90,6 +90,8 @@ fn main_task(alloc: Global, parked: Parked, name: &Name) -> Result<Task, AllocEr
         at: Pos { line: 0, col: 0 },
         condition,
         call: 0,
+        again: None,
+        restart: None,
         withdraw: None,
     })
 }

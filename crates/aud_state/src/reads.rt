@@ -1,6 +1,6 @@
 // What is read of one task.
 
-ghost use Rattle.std.specs.Prelude.{◌≡◌, [], Some, map, reverse, slice_get, slice_index_or, IsTrue};
+ghost use Rattle.std.specs.Prelude.{◌≡◌, ◌||◌, ◌&&◌, [], Some, map, reverse, slice_get, slice_index_or, IsTrue};
 ghost use Rattle.aud_typed.specs.Tree.{Plan};
 ghost use Rattle.aud_meaning.specs.Configuration.{TaskAt};
 ghost use Rattle.aud_meaning.specs.Evaluation.{Sight};
@@ -13,7 +13,9 @@ ghost use Rattle.aud_state.specs.View.{element_name, plain_task};
 use crate::state::State;
 use crate::task::Task;
 use aud_code::sound_code::SoundCode;
-use aud_meaning::state::{CallState, Form, OpenDelay, Owner, Pending, Serving, Status, StepKind};
+use aud_meaning::state::{
+    Again, CallState, Form, OpenDelay, Owner, Pending, Restart, Serving, Status, StepKind,
+};
 use aud_store::stack::Open;
 use aud_text::int32::Int32;
 use aud_text::place::Pos;
@@ -159,6 +161,30 @@ impl State {
         None
     }
 
+    /// Where the accept or entry body that it is leaving makes its call again (RM 9.5.4).
+    #[tactic(auto, using(crate::proofs::TaskLaws::Changed::own_got, crate::proofs::TaskLaws::Changed::own_past))]
+    pub fn again(&self, task: usize) -> Option<Again>
+        ensures { result ≡ (own_of task self.now).again }
+    {
+        if task < self.tasks.len() {
+            let found = &self.tasks[task];
+            return found.again;
+        }
+        None
+    }
+
+    /// The call that it makes again, on an object.
+    #[tactic(auto, using(crate::proofs::TaskLaws::Changed::own_got, crate::proofs::TaskLaws::Changed::own_past))]
+    pub fn restart(&self, task: usize) -> Option<Restart>
+        ensures { result ≡ (own_of task self.now).restart }
+    {
+        if task < self.tasks.len() {
+            let found = &self.tasks[task];
+            return found.restart;
+        }
+        None
+    }
+
     /// Whether it is abnormal (RM 9.8).
     #[tactic(auto, using(crate::proofs::TaskLaws::Changed::own_got, crate::proofs::TaskLaws::Changed::own_past))]
     pub fn is_abnormal(&self, task: usize) -> bool
@@ -171,7 +197,7 @@ impl State {
         false
     }
 
-    /// Whether it runs, is not abnormal and services no object, as most tasks do at most steps.
+    /// Whether it runs, is not abnormal, services no object and makes no other task's call again, as most tasks do at most steps.
     #[tactic(auto, using(crate::proofs::TaskLaws::Changed::own_got, crate::proofs::TaskLaws::Changed::own_past))]
     pub fn is_plain(&self, task: usize) -> bool
         ensures { IsTrue result → IsPlain (own_of task self.now) }
@@ -202,12 +228,34 @@ impl State {
         matches!(self.call_state(self.call(task)), CallState::Selected)
     }
 
-    /// The time from which on its entry call can be cancelled, while that is queued and its object has no action under way.
+    /// Whether its entry call is selected, or stays on its queue whatever happens (RM 9.5.4).
+    pub fn is_bound_call(&self, task: usize) -> bool
+        ensures { result ≡ (is_selected (call_of (own_of task self.now).call self.now).state
+            || (is_queued (call_of (own_of task self.now).call self.now).state
+            && (call_of (own_of task self.now).call self.now).stays)) }
+    {
+        self.is_bound(self.call(task))
+    }
+
+    // Whether a call is selected, or stays on its queue.
+    fn is_bound(&self, id: usize) -> bool
+        ensures { result ≡ (is_selected (call_of id self.now).state
+            || (is_queued (call_of id self.now).state && (call_of id self.now).stays)) }
+    {
+        match self.call_state(id) {
+            CallState::Selected => true,
+            CallState::Queued => self.stays(id),
+            CallState::Done | CallState::Cancelled => false,
+        }
+    }
+
+    /// The time from which on its entry call can be cancelled, unless it stays, while that is queued and its object has no action
+    /// under way.
     pub fn cancelled_from(&self, task: usize) -> Option<u64>
         ensures { result ≡ cancelled_from (call_of (own_of task self.now).call self.now) self.now }
     {
         let id = self.call(task);
-        if self.is_queued(id) && self.is_free(id) {
+        if self.is_queued(id) && !self.stays(id) && self.is_free(id) {
             cancel_time(self.call_form(id))
         } else {
             None
@@ -273,6 +321,13 @@ impl State {
         matches!(self.call_state(id), CallState::Queued)
     }
 
+    /// Whether it stays on its queue whatever happens to its caller (RM 9.5.4).
+    pub fn stays(&self, id: usize) -> bool
+        ensures { result ≡ (call_of id self.now).stays }
+    {
+        self.calls.stays(id)
+    }
+
     // Whether the object that it is queued on has no action under way.
     fn is_free(&self, id: usize) -> bool
         ensures { result ≡ is_free (call_of id self.now).owner self.now }
@@ -292,13 +347,14 @@ impl State {
 }
 
 impl Task {
-    // Whether it runs, is not abnormal and services no object.
+    // Whether it runs, is not abnormal, services no object and makes no other task's call again.
     fn is_plain(&self) -> bool
         ensures { IsTrue result → IsPlain (plain_task self.now).own }
     {
         matches!(self.condition.status(), Status::Running)
             && !self.condition.is_abnormal()
             && self.condition.serving().is_none()
+            && self.restart.is_none()
     }
 
     // The master that its own next step leaves.

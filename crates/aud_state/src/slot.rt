@@ -1,13 +1,20 @@
 // The place of an entry call among all of them.
 
-ghost use Rattle.std.specs.Prelude.{◌≡◌, not, IfNone, IfOk, IfSome, OnOk};
+ghost use Rattle.std.specs.Prelude.{◌≡◌, ℕ, false, not, Bool, Result, IfNone, IfOk, IfSome, OnErr, OnOk};
+ghost use Rattle.aud_text.specs.declared.raise.Raise.{Raise as RaiseOf};
+ghost use Rattle.aud_typed.specs.Tree.{Plan};
+ghost use Rattle.aud_meaning.specs.Evaluation.{Sight};
+ghost use Rattle.aud_meaning.specs.Orders.{Orders};
 ghost use Rattle.aud_meaning.specs.declared.state.CallState.TheVariants.{Queued};
 ghost use Rattle.aud_meaning.specs.Parts.{is_queued, no_call};
+ghost use Rattle.aud_meaning.specs.Tasks as effect;
+ghost use Rattle.aud_code.specs.Places.{Spot};
 ghost use Rattle.aud_over.specs.Over.{call_if, is_call_over};
 ghost use Rattle.aud_state.specs.View.{made_call, plain_call, plain_slot, IsKept};
 
 use crate::calls::{Call, NewCall};
-use aud_meaning::state::{CallState, Owner};
+use aud_meaning::state::{Again, CallState, Owner};
+use aud_text::int32::Int32;
 use std::alloc::{AllocError, Global};
 
 /// A call that is kept; or how far one is of which nothing else is kept, since it is over.
@@ -22,7 +29,7 @@ impl Slot {
     pub(crate) fn of_new(alloc: Global, call: NewCall) -> Result<Self, AllocError>
         ensures { IfOk result (λ slot. plain_slot slot ≡ made_call call) }
     {
-        let call = Box::new(alloc, Call::of_new(call))?;
+        let call = Box::new(alloc, Call::of_new(alloc, call))?;
         Ok(Slot::Kept(call))
     }
 
@@ -55,7 +62,7 @@ impl Slot {
     {
         match self {
             Slot::Kept(call) => call.owner,
-            Slot::GivenBack(_) => Owner::Task(0),
+            Slot::GivenBack(_) => Owner::Object(0),
         }
     }
 
@@ -100,6 +107,72 @@ impl Slot {
             *self = Slot::Kept(call);
         }
         Ok(())
+    }
+
+    /// It is made again, as this says, with these values of its formals.
+    ///
+    /// # Errors
+    ///
+    /// Where memory is refused.
+    pub(crate) fn retarget(
+        &mut self,
+        alloc: Global,
+        again: Again,
+        values: Vec<Int32>,
+    ) -> Result<(), AllocError>
+        ensures does { OnOk result ((go : Orders Spot) → (plan : Plan) →
+            (barrier : ℕ → Sight → Result Bool RaiseOf) → plain_slot self.new ≡
+            effect.retargeted go plan barrier again values.items (plain_slot self.old)) }
+        ensures settled { OnOk result (is_queued (plain_slot self.new).state ≡ false) }
+        ensures same { OnErr result (plain_slot self.new ≡ plain_slot self.old) }
+    {
+        self.keep(alloc)?;
+        self.retarget_kept(again, values);
+        Ok(())
+    }
+
+    // The same, of one that is kept.
+    fn retarget_kept(&mut self, again: Again, values: Vec<Int32>)
+        requires { IsKept self.old }
+        ensures does { (go : Orders Spot) → (plan : Plan) →
+            (barrier : ℕ → Sight → Result Bool RaiseOf) → plain_slot self.new ≡
+            effect.retargeted go plan barrier again values.items (plain_slot self.old) }
+        ensures settled { is_queued (plain_slot self.new).state ≡ false }
+    {
+        if let Slot::Kept(call) = self {
+            call.retarget(again, values);
+        }
+    }
+
+    /// It is made on an entry of this task or object.
+    ///
+    /// # Errors
+    ///
+    /// Where memory is refused.
+    pub(crate) fn set_owner(&mut self, alloc: Global, owner: Owner) -> Result<(), AllocError>
+        ensures does { OnOk result ((go : Orders Spot) → (plan : Plan) →
+            (barrier : ℕ → Sight → Result Bool RaiseOf) → plain_slot self.new ≡
+            effect.called_of go plan barrier owner (plain_slot self.old)) }
+        ensures settled { OnOk result (is_queued (plain_slot self.new).state ≡ false) }
+        ensures same { OnErr result (plain_slot self.new ≡ plain_slot self.old) }
+    {
+        self.keep(alloc)?;
+        self.give_kept(owner);
+        Ok(())
+    }
+
+    // The same, of one that is kept.
+    fn give_kept(&mut self, owner: Owner)
+        requires { IsKept self.old }
+        ensures does { (go : Orders Spot) → (plan : Plan) →
+            (barrier : ℕ → Sight → Result Bool RaiseOf) →
+            plain_slot self.new ≡ effect.called_of go plan barrier owner (plain_slot self.old) }
+        ensures settled { is_queued (plain_slot self.new).state ≡ false }
+    {
+        if let Slot::Kept(call) = self {
+            call.owner = owner;
+            call.state = CallState::Selected;
+        }
     }
 
     /// It is queued, as the arrival of this number.

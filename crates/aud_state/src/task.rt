@@ -16,7 +16,7 @@ ghost use Rattle.aud_state.specs.View.{goes_on_behind, handles_it, plain_task, p
 
 use crate::condition::Condition;
 use aud_code::sound_code::SoundCode;
-use aud_meaning::state::{OpenAccept, OpenDelay, Pending, Status};
+use aud_meaning::state::{Again, OpenAccept, OpenDelay, Pending, Restart, Status};
 use aud_sequential::progress::parked::Parked;
 use aud_text::name::Name;
 use aud_text::place::Pos;
@@ -57,7 +57,8 @@ impl Waits {
 /// A task: its name, of an element of an array with its number; its type, its body; what it works on by itself; the
 /// exception that completed it; the masters that it depends on; the declarative part that created it; the task that
 /// waits for its activation; whether an activation that it waited for failed; where it is blocked; how far it is, and
-/// at what it is blocked; its entry call, and the object from which it withdraws.
+/// at what it is blocked; its entry call; where the accept or entry body that it is leaving makes its call again, and the call that
+/// it then makes on an object; the object from which it withdraws.
 #[derive(Drop)]
 pub struct Task {
     pub(crate) name: Name,
@@ -73,6 +74,8 @@ pub struct Task {
     pub(crate) at: Pos,
     pub(crate) condition: Condition,
     pub(crate) call: usize,
+    pub(crate) again: Option<Again>,
+    pub(crate) restart: Option<Restart>,
     pub(crate) withdraw: Option<usize>,
 }
 

@@ -2,7 +2,7 @@
 
 ghost use Rattle.aud_syntax.specs.Ties.Writes.{Writes};
 ghost use Rattle.aud_syntax.specs.Ties.View.{plain_declaration, plain_declarations, plain_procedure, plain_task_body, plain_protected_body, plain_operation_body, operation_body_list, plain_expression, plain_maybe, plain_name, plain_statement, plain_others, plain_statements, plain_if, arm_list, plain_iteration, plain_parameter, plain_choices, plain_loop_statement, plain_block, plain_body, handler_list, plain_delay, plain_accept, plain_done, plain_select, guarded_list, plain_alternative, plain_selected_call, plain_other, plain_names, plain_abort};
-ghost use Rattle.aud_syntax.specs.Why.Printed.{declaration_words, declarations_words, operation_body_words, operation_bodies_words, null_words, assignment_words, call_words, label_words, reverse_words, iteration_words, exit_words, value_words, return_words, raise_words, declare_words, choices_words, expression_words, arm_words, arms_words, otherwise_words, statement_words, more_statements_words, statements_words, body_words, handler_words, handlers_words, handled_words, words_behind, seconds_words, duration_words, delay_words, accept_words, doing_words, guard_words, terminate_words, guarded_words, alternative_words, alternatives_words, other_words, end_select_words, more_names_words};
+ghost use Rattle.aud_syntax.specs.Why.Printed.{declaration_words, declarations_words, operation_body_words, operation_bodies_words, null_words, assignment_words, call_words, label_words, reverse_words, iteration_words, exit_words, value_words, return_words, raise_words, declare_words, choices_words, expression_words, arm_words, arms_words, otherwise_words, statement_words, more_statements_words, statements_words, body_words, handler_words, handlers_words, handled_words, words_behind, seconds_words, duration_words, delay_words, accept_words, doing_words, guard_words, terminate_words, guarded_words, alternative_words, alternatives_words, other_words, end_select_words, more_names_words, with_abort_words, requeue_words};
 
 use crate::declarations::{
     push_array, push_constant, push_exceptions, push_formals, push_head, push_object, push_task,
@@ -151,6 +151,7 @@ fn push_statement(out: &mut Written, statement: &Statement)
         Statement::Select(statement) => push_select(out, statement),
         Statement::SelectCall(statement) => push_selected_call(out, statement),
         Statement::Abort(statement) => push_abort(out, statement),
+        Statement::Requeue(_, target, with_abort) => push_requeue(out, target, *with_abort),
     }
 }
 
@@ -470,6 +471,24 @@ fn push_more_names(out: &mut Written, others: &[Name])
     for next in others {
         push_word(out, b",");
         push_name(out, next);
+    }
+}
+
+// RM 9.5.4
+fn push_requeue(out: &mut Written, target: &Name, with_abort: bool)
+    ensures { Writes out.old out.new (requeue_words (plain_name target.now) with_abort) }
+{
+    push_word(out, b"requeue");
+    push_name(out, target);
+    push_with_abort(out, with_abort);
+    push_last_word(out, b";");
+}
+
+fn push_with_abort(out: &mut Written, with_abort: bool)
+    ensures { Writes out.old out.new (with_abort_words with_abort) }
+{
+    if with_abort {
+        push_two_words(out, b"with", b"abort");
     }
 }
 

@@ -684,6 +684,8 @@ pub enum Statement {
     /// A timed or a conditional entry call.
     SelectCall(Box<SelectedCall>),
     Abort(Box<AbortStatement>),
+    /// Where `requeue` stands, the entry at which the call is made again, and whether `with abort` stands there (RM 9.5.4).
+    Requeue(Pos, Box<Name>, bool),
 }
 
 impl Drop for Statement {
@@ -710,6 +712,7 @@ impl Drop for Statement {
             Statement::Select(statement) => drop(statement),
             Statement::SelectCall(statement) => drop(statement),
             Statement::Abort(statement) => drop(statement),
+            Statement::Requeue(_, target, _) => drop(target),
         }
     }
 }

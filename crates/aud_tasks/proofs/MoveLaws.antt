@@ -1,3 +1,4 @@
+pub mod Again
 pub mod Alternatives
 pub mod Choosing
 pub mod Chosen

@@ -1,19 +1,24 @@
 -- What decides on the moves of a task beside its own part.
-use Rattle.std.specs.Prelude.{◌≡◌, ◌<◌, ℕ, length, Option, Some, None, Bool, true, false, slice_get}
+use Rattle.std.specs.Prelude.{◌≡◌, ◌<◌, ℕ, List, [], ◌∷◌, length, Option, Some, None, Bool, true, false, slice_get}
 use Rattle.aud_typed.specs.Tree.{Plan}
-use Rattle.aud_meaning.specs.Configuration.{TaskAt, All}
-use Rattle.aud_meaning.specs.Control.{Coming, selecting, calling, starting}
+use Rattle.aud_meaning.specs.Configuration as configuration
+use Rattle.aud_meaning.specs.Configuration.{for_accept, Opened, TaskAt, All}
+use Rattle.aud_meaning.specs.Control.{Coming, ending, selecting, calling, starting}
 use Rattle.aud_meaning.specs.Evaluation.{Sight, number_in}
-use Rattle.aud_meaning.specs.Parts.{sight_of, unit_of}
+use Rattle.aud_meaning.specs.Parts.{own_of, sight_of, unit_of}
+use Rattle.aud_meaning.specs.Run.{again_left, construct_left}
 use Rattle.aud_code.specs.declared.line.Among.{Among}
 use Rattle.aud_code.specs.declared.line.Among.TheVariants as among
 use Rattle.aud_code.specs.declared.line.Last.{Last}
-use Rattle.aud_code.specs.declared.line.Last.TheVariants.{Concerns, Does}
+use Rattle.aud_code.specs.declared.line.Last.TheVariants.{Concerns, Does, Ends, Guards, Leaves}
 use Rattle.aud_code.specs.Eval.{accepts_in, named_in}
 use Rattle.aud_code.specs.Flat.{Flat, no_scene}
 use Rattle.aud_code.specs.Instruction.{Ended}
 use Rattle.aud_code.specs.Places.{Spot}
 use Rattle.aud_expr.specs.Flow.{evaluated_by}
+use Rattle.aud_store.specs.declared.purpose.Purpose.{Purpose}
+use Rattle.aud_store.specs.declared.purpose.Purpose.TheVariants.{Accept}
+use Rattle.aud_tasks.specs.declared.again.Target.{Target}
 use Rattle.aud_tasks.specs.declared.choice.Choice.{Choice}
 use Rattle.aud_tasks.specs.declared.choice.Choice.TheVariants.{Select, Call}
 use Rattle.aud_tasks.specs.declared.choice.Start.{Start}
@@ -60,3 +65,43 @@ IsNoStart next = Unit {0}
 abbrev pub is_alone : Last → Bool
 is_alone (Does e next) = true
 is_alone last = false
+
+-- The end of an accept that makes its call again (RM 9.5.4).
+
+-- a step with this ending counts as one that leaves a construct
+abbrev pub is_end : Last → Bool
+is_end (Guards gs) = true
+is_end (Ends c next) = true
+is_end (Leaves n to) = true
+is_end last = false
+
+abbrev pub is_ending : Coming → Bool
+is_ending ending = true
+is_ending next = false
+
+-- what an accept's frame is opened for
+abbrev pub is_accept : Purpose → Bool
+is_accept (Accept call) = true
+is_accept purpose = false
+
+abbrev pub for_an_accept : configuration.Purpose → Bool
+for_an_accept (for_accept call) = true
+for_an_accept purpose = false
+
+-- an accept is the innermost one of these
+abbrev pub leaves_accept : List Opened → Bool
+leaves_accept [] = false
+leaves_accept (o ∷ os) = for_an_accept o.purpose
+
+-- where the task of a number makes a call again if it leaves a construct next: on a task's entry
+abbrev pub again_in : ℕ → All Spot → Option (ℕ × ℕ)
+again_in n c = let own = own_of n c in again_left own.pending own.again (construct_left own)
+
+abbrev pub target_in : Option Target → Option (ℕ × ℕ)
+target_in None = None
+target_in (Some t) = Some (t.task, t.entry)
+
+-- so memory tells it
+abbrev pub MakesAgain : Flat → ℕ → All Spot → Option Target → Type 0
+MakesAgain code n c None = (plan : Plan) → coming_in plan code n c ≡ ending → again_in n c ≡ None
+MakesAgain code n c (Some t) = ((plan : Plan) → coming_in plan code n c ≡ ending) × (again_in n c ≡ Some (t.task, t.entry))

@@ -36,7 +36,7 @@ pub record IsNextMover (plan : Plan) (code : Flat) (from task : ℕ) (c : All Sp
   pub behind : moves_behind plan code from c ≡ moves_behind plan code task c
   pub moves : has_some (moves_of plan code task c) ≡ true
 
--- what comes next of a task that never has several moves
+-- what comes next of a task that is at no choice
 abbrev pub IsSingle : Coming → Type 0
 IsSingle (selecting ones) = ⊥
 IsSingle (calling task entry) = ⊥

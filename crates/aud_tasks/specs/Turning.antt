@@ -10,7 +10,7 @@ use Rattle.aud_code.specs.Places.{Spot}
 use Rattle.aud_code.specs.Flat.{Flat, barrier_at, flat_controls}
 use Rattle.aud_abort.specs.Deferring as deferring
 use Rattle.aud_tasks.specs.declared.turn.Turn.{Turn}
-use Rattle.aud_tasks.specs.declared.turn.Turn.TheVariants.{Resting, Closing, Completing, Withdrawing, Serving, Expiring, Cancelling, Acting}
+use Rattle.aud_tasks.specs.declared.turn.Turn.TheVariants.{Resting, Closing, Completing, Withdrawing, Serving, Restarting, Expiring, Cancelling, Acting}
 
 abbrev pub turn_in : Plan → Flat → ℕ → All Spot → run.Turn
 turn_in plan code n c =
@@ -36,6 +36,7 @@ turned plan code n c Closing = run.closing
 turned plan code n c Completing = run.completing
 turned plan code n c (Withdrawing object) = run.withdrawing object
 turned plan code n c (Serving s) = run.serving s
+turned plan code n c (Restarting r) = run.restarting r
 turned plan code n c Expiring = run.expiring (own_of n c).waits.delays
 turned plan code n c Cancelling = run.cancelling (own_of n c).call
 turned plan code n c Acting = run.acting (coming_in plan code n c)

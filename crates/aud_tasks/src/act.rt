@@ -1,6 +1,6 @@
 // The step of a task's own statements.
 
-ghost use Rattle.std.specs.Prelude.{◌≡◌, ◌<◌, ◌≤◌, ℕ, None, Some, IfOk, OnOk, Option, length, slice_get};
+ghost use Rattle.std.specs.Prelude.{◌≡◌, ◌<◌, ◌≤◌, None, Some, IfOk, OnOk, length, slice_get};
 ghost use Rattle.aud_typed.specs.Ties.View.{plain_program};
 ghost use Rattle.aud_meaning.specs.Configuration.{TaskAt};
 ghost use Rattle.aud_code.specs.Flat.{end_at};
@@ -42,7 +42,7 @@ pub(crate) fn act(
         (plain_program compiled.entry.program.now).plan compiled.entry.code.now) }
 {
     match state.pending(n) {
-        Some(pending) => propagate(state, alloc, compiled, n, pending),
+        Some(pending) => propagate(state, alloc, compiled, alternative, n, pending),
         None => execute(state, alloc, compiled, alternative, n, operands),
     }
 }
@@ -52,12 +52,12 @@ fn propagate(
     state: &mut State,
     alloc: Global,
     compiled: Compiled<'_>,
+    alternative: Option<usize>,
     n: usize,
     pending: Pending,
 ) -> Result<u64, AllocError>
-    ensures does { OnOk result ((alternative : Option ℕ) →
-        ActsPending (plain_program compiled.entry.program.now).plan compiled.entry.code.now
-        compiled.entry.limits alternative n (Some pending) state.old state.new) }
+    ensures does { OnOk result (ActsPending (plain_program compiled.entry.program.now).plan
+        compiled.entry.code.now compiled.entry.limits alternative n (Some pending) state.old state.new) }
     ensures few { IfOk result (λ ticks. ticks ≤ most_of_barriers
         (plain_program compiled.entry.program.now).plan compiled.entry.code.now) }
 {
@@ -67,7 +67,7 @@ fn propagate(
             state.handle(compiled.code, n, pending);
             Ok(0)
         }
-        None => leave_by(state, alloc, compiled, n, pending),
+        None => leave_by(state, alloc, compiled, alternative, n, pending),
     }
 }
 
@@ -90,7 +90,7 @@ fn execute(
 {
     let place = state.place(n);
     if place >= compiled.code.len() {
-        return leave(state, alloc, compiled, n, 0);
+        return leave(state, alloc, compiled, alternative, n, 0);
     }
     let evaluated = state.evaluate(compiled.code, n, operands)?;
     let ticks = follow(
@@ -169,7 +169,7 @@ fn reach(
 {
     match compiled.code.ending(reached) {
         Some(line) => finish(state, alloc, compiled, alternative, n, line, operands),
-        None => leave(state, alloc, compiled, n, 0),
+        None => leave(state, alloc, compiled, alternative, n, 0),
     }
 }
 
@@ -199,6 +199,6 @@ fn raise_there(
             raise,
             operands,
         ),
-        None => leave(state, alloc, compiled, n, 0),
+        None => leave(state, alloc, compiled, alternative, n, 0),
     }
 }

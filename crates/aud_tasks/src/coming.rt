@@ -43,6 +43,7 @@ fn kind_of(state: &State, code: &SoundCode, task: usize, turn: Turn) -> StepKind
         Turn::Completing => StepKind::Complete,
         Turn::Withdrawing(_) => StepKind::Withdraw,
         Turn::Serving(_) => StepKind::Serve,
+        Turn::Restarting(_) => StepKind::Start,
         Turn::Expiring | Turn::Cancelling => StepKind::Expire,
         Turn::Acting => state.next_kind(code, task),
     }
@@ -58,6 +59,7 @@ fn place_of(state: &State, compiled: Compiled<'_>, task: usize, turn: Turn) -> P
         Turn::Resting | Turn::Closing | Turn::Acting => usual_place(state, compiled, task),
         Turn::Completing => end_of_body(state, compiled, task),
         Turn::Serving(servicing) => servicing.at,
+        Turn::Restarting(restart) => restart.at,
         Turn::Withdrawing(_) | Turn::Expiring | Turn::Cancelling => state.blocked_at(task),
     }
 }

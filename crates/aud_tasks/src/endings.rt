@@ -8,9 +8,9 @@ ghost use Rattle.aud_meaning.specs.Parts.{task_plan};
 ghost use Rattle.aud_code.specs.Eval.{asked_end};
 ghost use Rattle.aud_code.specs.Flat.{end_at};
 ghost use Rattle.aud_code.specs.Instruction.{Raised, Reached};
-ghost use Rattle.aud_code.specs.Places.{Spot};
+ghost use Rattle.aud_code.specs.Places.{loops_of, Spot};
 ghost use Rattle.aud_code.specs.Sound.{counts_of, EndingFine, LastFine};
-ghost use Rattle.aud_code.specs.View.{plain_among, plain_end, plain_last};
+ghost use Rattle.aud_code.specs.View.{plain_among, plain_end, plain_last, way_beside};
 ghost use Rattle.aud_sequential.specs.Steps.{IsOfOne};
 ghost use Rattle.aud_state.specs.Fast.{scene};
 ghost use Rattle.aud_tasks.specs.Counting.{most_of_barriers};
@@ -19,7 +19,7 @@ ghost use Rattle.aud_tasks.specs.Endings.{is_declaration, is_statement, is_too_l
 
 use crate::compiled::Compiled;
 use crate::leave::leave;
-use crate::{entries, objects};
+use crate::{entries, objects, requeues};
 use aud_abort::aborting;
 use aud_code::line::{Among, EndLine, Ending, Last};
 use aud_expr::operands::Operands;
@@ -79,8 +79,8 @@ pub(crate) fn finish(
             step_alone(state, compiled, n, end, operands)?;
             Ok(0)
         }
-        Last::Ends(_, _) => leave(state, alloc, compiled, n, 0),
-        Last::Leaves { loops, .. } => leave(state, alloc, compiled, n, *loops),
+        Last::Ends(_, _) => leave(state, alloc, compiled, alternative, n, 0),
+        Last::Leaves { loops, .. } => leave(state, alloc, compiled, alternative, n, *loops),
     }
 }
 
@@ -126,10 +126,12 @@ fn concern(
     at: Pos,
     operands: &Operands,
 ) -> Result<u64, AllocError>
-    requires { EndingFine (plain_among among.now) (counts_of operands.now) }
+    requires there { (t : TaskAt Spot) → slice_get state.old.tasks n ≡ Some t →
+        (end_at compiled.code.now t.control.place).exit ≡ way_beside among.now }
+    requires fine { EndingFine (plain_among among.now) (counts_of operands.now) }
     ensures does { OnOk result (DoesAsked (plain_program compiled.entry.program.now).plan
         compiled.entry.code.now compiled.entry.limits alternative n
-        (asked_end (plain_among among.now) 0 at (scene n state.old) operands.now)
+        (asked_end (plain_among among.now) (loops_of (way_beside among.now)) at (scene n state.old) operands.now)
         state.old state.new) }
     ensures few { IfOk result (λ ticks. ticks ≤ most_of_barriers
         (plain_program compiled.entry.program.now).plan compiled.entry.code.now) }
@@ -186,6 +188,12 @@ fn concern(
             operands,
         )?,
         Among::Abort => aborting::abort(state, alloc, compiled.code, operands.names(), at, n)?,
+        Among::RequeueTask { again, way } => {
+            requeues::on_task(state, compiled, n, *again, *way, at, operands);
+        }
+        Among::RequeueObject { object, again, way } => {
+            requeues::on_object(state, compiled, n, *object, *again, *way, at, operands);
+        }
     }
     Ok(0)
 }

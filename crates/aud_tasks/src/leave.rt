@@ -1,6 +1,6 @@
 // The step that leaves the innermost construct.
 
-ghost use Rattle.std.specs.Prelude.{◌≡◌, ℕ, Bool, List, Option, Some, Result, ◌≤◌, IfOk, OnOk};
+ghost use Rattle.std.specs.Prelude.{◌≡◌, ℕ, Bool, List, Some, Result, ◌≤◌, IfOk, OnOk};
 ghost use Rattle.aud_text.specs.declared.raise.Raise.{Raise as RaiseOf};
 ghost use Rattle.aud_typed.specs.Tree.{Plan};
 ghost use Rattle.aud_typed.specs.Ties.View.{plain_program};
@@ -31,23 +31,24 @@ use aud_text::place::Pos;
 use aud_typed::program::Exception;
 use std::alloc::{AllocError, Global};
 
-/// The task leaves its innermost construct at the end of it, with so many loops around it (RM 5.7, 6.5, 9.3). It gives the
-/// instructions of barriers that were executed.
+/// The task leaves its innermost construct at the end of it, with so many loops around it (RM 5.7, 6.5, 9.3). Where its accept
+/// makes the call again, the call takes the alternative that the move picks (RM 9.5.4). It gives the instructions of barriers
+/// that were executed.
 pub(crate) fn leave(
     state: &mut State,
     alloc: Global,
     compiled: Compiled<'_>,
+    alternative: Option<usize>,
     n: usize,
     loops: usize,
 ) -> Result<u64, AllocError>
-    ensures does { OnOk result ((alternative : Option ℕ) →
-        DoesAsked (plain_program compiled.entry.program.now).plan compiled.entry.code.now
-        compiled.entry.limits alternative n (ends loops) state.old state.new) }
+    ensures does { OnOk result (DoesAsked (plain_program compiled.entry.program.now).plan
+        compiled.entry.code.now compiled.entry.limits alternative n (ends loops) state.old state.new) }
     ensures few { IfOk result (λ ticks. ticks ≤ most_of_barriers
         (plain_program compiled.entry.program.now).plan compiled.entry.code.now) }
 {
     state.pass_end(compiled.code, n);
-    let ticks = end_construct(state, alloc, compiled, n, None)?;
+    let ticks = end_construct(state, alloc, compiled, alternative, n, None)?;
     state.out_of(n, loops);
     Ok(ticks)
 }
@@ -57,17 +58,17 @@ pub(crate) fn leave_by(
     state: &mut State,
     alloc: Global,
     compiled: Compiled<'_>,
+    alternative: Option<usize>,
     n: usize,
     pending: Pending,
 ) -> Result<u64, AllocError>
-    ensures does { OnOk result ((alternative : Option ℕ) →
-        DoesAsked (plain_program compiled.entry.program.now).plan compiled.entry.code.now
-        compiled.entry.limits alternative n (is_left_by pending) state.old state.new) }
+    ensures does { OnOk result (DoesAsked (plain_program compiled.entry.program.now).plan
+        compiled.entry.code.now compiled.entry.limits alternative n (is_left_by pending) state.old state.new) }
     ensures few { IfOk result (λ ticks. ticks ≤ most_of_barriers
         (plain_program compiled.entry.program.now).plan compiled.entry.code.now) }
 {
     state.leave_by(compiled.code, n, pending.exception);
-    let ticks = end_construct(state, alloc, compiled, n, Some(pending))?;
+    let ticks = end_construct(state, alloc, compiled, alternative, n, Some(pending))?;
     Ok(ticks)
 }
 
@@ -77,17 +78,18 @@ fn end_construct(
     state: &mut State,
     alloc: Global,
     compiled: Compiled<'_>,
+    alternative: Option<usize>,
     n: usize,
     pending: Option<Pending>,
 ) -> Result<u64, AllocError>
     ensures does { OnOk result (state.new ≡ effect.at_end (going compiled.entry.code.now)
-        (plain_program compiled.entry.program.now).plan (barrier_at compiled.entry.code.now) pending n
-        state.old) }
+        (plain_program compiled.entry.program.now).plan (barrier_at compiled.entry.code.now) alternative
+        pending n state.old) }
     ensures few { IfOk result (λ ticks. ticks ≤ most_of_barriers
         (plain_program compiled.entry.program.now).plan compiled.entry.code.now) }
 {
     match state.construct(n) {
-        Some(inner) => end_inner(state, alloc, compiled, n, inner, pending),
+        Some(inner) => end_inner(state, alloc, compiled, alternative, n, inner, pending),
         None => Ok(0),
     }
 }
@@ -97,14 +99,15 @@ fn end_inner(
     state: &mut State,
     alloc: Global,
     compiled: Compiled<'_>,
+    alternative: Option<usize>,
     n: usize,
     inner: Open,
     pending: Option<Pending>,
 ) -> Result<u64, AllocError>
     requires { IsInnermost (Some inner) (out_of_loops (own_of n state.old)).opened }
     ensures does { OnOk result (state.new ≡ effect.at_end (going compiled.entry.code.now)
-        (plain_program compiled.entry.program.now).plan (barrier_at compiled.entry.code.now) pending n
-        state.old) }
+        (plain_program compiled.entry.program.now).plan (barrier_at compiled.entry.code.now) alternative
+        pending n state.old) }
     ensures few { IfOk result (λ ticks. ticks ≤ most_of_barriers
         (plain_program compiled.entry.program.now).plan compiled.entry.code.now) }
 {
@@ -130,7 +133,9 @@ fn end_inner(
                 state, alloc, compiled, n, object, call, resumed, inner, pending,
             );
         }
-        Purpose::Accept { call } => end_accept(state, alloc, code, n, call, inner, pending)?,
+        Purpose::Accept { call } => {
+            end_accept(state, alloc, code, alternative, n, call, inner, pending)?;
+        }
     }
     Ok(0)
 }
@@ -193,6 +198,7 @@ fn end_accept(
     state: &mut State,
     alloc: Global,
     code: &SoundCode,
+    alternative: Option<usize>,
     n: usize,
     call: usize,
     inner: Open,
@@ -200,11 +206,11 @@ fn end_accept(
 ) -> Result<(), AllocError>
     ensures { OnOk result ((plan : Plan) → (barrier : ℕ → Sight → Result Bool RaiseOf) →
         (saved : List ℕ) → (backs : List BackOf) →
-        state.new ≡ effect.at_accept_end (going code.now) plan barrier pending call
+        state.new ≡ effect.at_accept_end (going code.now) plan barrier alternative pending call
         (plain_open inner saved backs) n (on_own n out_of_loops state.old)) }
 {
     state.out_of_loops(n);
-    finish(state, alloc, code, pending, call, inner, n)
+    finish(state, alloc, code, alternative, pending, call, inner, n)
 }
 
 // The innermost frame is left; what was pending is pending behind it.

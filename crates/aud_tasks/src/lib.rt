@@ -2,6 +2,7 @@
 #![tactic(auto)]
 
 mod act;
+mod again;
 mod barriers;
 mod choice;
 pub mod chosen;
@@ -15,6 +16,7 @@ mod leave;
 mod leaving;
 pub mod moves;
 mod objects;
+mod requeues;
 pub mod run;
 pub mod status;
 mod step;

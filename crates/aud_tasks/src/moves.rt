@@ -11,10 +11,11 @@ ghost use Rattle.aud_tasks.specs.Enabled.{enabled_moves};
 ghost use Rattle.aud_code.specs.Starts.{AreSpots};
 ghost use Rattle.aud_tasks.specs.Choices.{ComesTo};
 ghost use Rattle.aud_tasks.specs.Running.{ActsSimply, AreSimple};
-ghost use Rattle.aud_tasks.specs.Moving.{alone_if, has_some, moves_behind, moves_of, picked, IsNextMover, IsSimple};
+ghost use Rattle.aud_tasks.specs.Moving.{alone_if, has_some, moves_behind, moves_of, picked, IsNextMover, IsSimple, IsSingle};
 ghost use Rattle.aud_state.specs.Reads.{IsPlain};
 ghost use Rattle.aud_tasks.specs.Turning.{coming_in};
 
+use crate::again::again_at;
 use crate::barriers::Evaluator;
 use crate::choice::{Choice, choice_at, is_simple, start_at};
 use crate::compiled::Compiled;
@@ -219,6 +220,7 @@ pub(crate) fn has_move(state: &State, compiled: Compiled<'_>, task: usize) -> bo
         Turn::Closing => closable(state, state.body_master(task)),
         Turn::Completing => true,
         Turn::Serving(_) => true,
+        Turn::Restarting(restart) => may_begin(state, task, false, restart.object),
         Turn::Withdrawing(object) => state.is_idle(object),
         Turn::Expiring => has_ended_delay(state.delays(task), task, state.clock()),
         Turn::Cancelling => can_be_cancelled(state, task),
@@ -263,6 +265,7 @@ fn enabled_of<'a>(
         Turn::Closing => Ok(one_if(closable(state, state.body_master(task)))),
         Turn::Completing => Ok(Enabled::One),
         Turn::Serving(serving) => serves(state, alloc, compiled, serving.object),
+        Turn::Restarting(restart) => { Ok(one_if(may_begin(state, task, false, restart.object))) }
         Turn::Withdrawing(object) => Ok(one_if(state.is_idle(object))),
         Turn::Expiring => Ok(Enabled::Delays(state.delays(task))),
         Turn::Cancelling => Ok(one_if(can_be_cancelled(state, task))),
@@ -290,8 +293,31 @@ fn acting<'a>(
         return Ok(Enabled::One);
     }
     match choice_at(state, code, task) {
-        None => Ok(one_if(can_act(state, compiled, task))),
+        None => unchosen(state, alloc, compiled, task),
         Some(choice) => choose(state, alloc, code, operands, task, choice),
+    }
+}
+
+// Those of one at no choice: its own, if that is enabled; at the end of an accept that makes its call again, those of a call.
+fn unchosen<'a>(
+    state: &'a State,
+    alloc: Global,
+    compiled: Compiled<'_>,
+    task: usize,
+) -> Result<Enabled<'a>, AllocError>
+    requires within { task < length state.now.tasks }
+    requires single { IsSingle (coming_in (plain_program compiled.program.now).plan compiled.code.now task state.now) }
+    ensures { IfOk result (λ enabled. let plan = (plain_program compiled.entry.program.now).plan in
+        let code = compiled.entry.code.now in enabled_moves task state.now.clock enabled
+        ≡ acting_moves plan (barrier_at code) (coming_in plan code task state.now) task
+        (seen plan (flat_controls plan code) state.now)) }
+{
+    match again_at(state, compiled.code, task) {
+        Some(target) => {
+            let numbers = state.open_alternatives(alloc, target.task, target.entry)?;
+            Ok(Enabled::Alternatives(numbers))
+        }
+        None => Ok(one_if(can_act(state, compiled, task))),
     }
 }
 

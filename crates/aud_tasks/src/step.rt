@@ -3,7 +3,7 @@
 ghost use Rattle.std.specs.Prelude.{◌≡◌, ◌<◌, ◌≤◌, IfOk, OnOk, length};
 ghost use Rattle.aud_typed.specs.Ties.View.{plain_program};
 ghost use Rattle.aud_meaning.specs.Run.{alternative_or_none, step_with};
-ghost use Rattle.aud_meaning.specs.Tasks.{serves};
+ghost use Rattle.aud_meaning.specs.Tasks.{serves, starts_again};
 ghost use Rattle.aud_code.specs.Control.{going};
 ghost use Rattle.aud_code.specs.Flat.{barrier_at, flat_controls};
 ghost use Rattle.aud_code.specs.Sound.{IsSound};
@@ -19,8 +19,8 @@ use aud_abort::{completing, withdrawing};
 use aud_code::sound_code::SoundCode;
 use aud_expr::operands::Operands;
 use aud_masters::ending;
-use aud_meaning::state::{Move, Serving};
-use aud_protected::{cancelling, servicing};
+use aud_meaning::state::{Move, Restart, Serving};
+use aud_protected::{cancelling, servicing, starting};
 use aud_select::expiring;
 use aud_state::state::State;
 use aud_text::limits::STEPS;
@@ -96,6 +96,7 @@ fn take_turn(
             Ok(barriers.ticks())
         }
         Turn::Serving(serving) => serve(state, alloc, compiled, serving, taken.alternative, n),
+        Turn::Restarting(restart) => start_again(state, alloc, compiled, restart, n),
         Turn::Acting => act(state, alloc, compiled, taken.alternative, n, operands),
     }
 }
@@ -118,6 +119,26 @@ fn serve(
     let code = compiled.code;
     let mut barriers = Evaluator::new(alloc, compiled);
     servicing::serve(state, alloc, code, &mut barriers, index, serving, n)?;
+    Ok(barriers.ticks())
+}
+
+// A task makes a call on an object that its accept makes again.
+fn start_again(
+    state: &mut State,
+    alloc: Global,
+    compiled: Compiled<'_>,
+    restart: Restart,
+    n: usize,
+) -> Result<u64, AllocError>
+    ensures does { OnOk result (state.new ≡ starts_again (going compiled.entry.code.now)
+        (plain_program compiled.entry.program.now).plan (barrier_at compiled.entry.code.now) restart n
+        state.old) }
+    ensures few { IfOk result (λ ticks. ticks ≤ most_of_barriers
+        (plain_program compiled.entry.program.now).plan compiled.entry.code.now) }
+{
+    let code = compiled.code;
+    let mut barriers = Evaluator::new(alloc, compiled);
+    starting::start_again(state, alloc, code, &mut barriers, restart, n)?;
     Ok(barriers.ticks())
 }
 

@@ -6,15 +6,16 @@ ghost use Rattle.aud_meaning.specs.Parts.{own_of};
 ghost use Rattle.aud_meaning.specs.Run as run;
 ghost use Rattle.aud_meaning.specs.Run.{seen};
 ghost use Rattle.aud_code.specs.Flat.{barrier_at, flat_controls, Flat};
-ghost use Rattle.aud_tasks.specs.Turning.{seen_in, turn_in, turned, usual_in};
+ghost use Rattle.aud_tasks.specs.Turning.{coming_in, seen_in, turn_in, turned, usual_in};
 
 use aud_abort::deferring::is_deferred;
 use aud_code::sound_code::SoundCode;
-use aud_meaning::state::{Serving as Servicing, Status};
+use aud_meaning::state::{Restart, Serving as Servicing, Status};
 use aud_state::state::State;
 
 /// What a task does at its next step: nothing; a completed task is closed; an abnormal one completes, or withdraws from an object
-/// (RM 9.8); it services an object; a delay ends; its call is cancelled; or its own statements go on.
+/// (RM 9.8); it services an object; a call is made on an object that its accept makes again (RM 9.5.4); a delay ends; its call is
+/// cancelled; or its own statements go on.
 #[derive(Clone, Copy)]
 pub enum Turn {
     Resting,
@@ -22,6 +23,7 @@ pub enum Turn {
     Completing,
     Withdrawing(usize),
     Serving(Servicing),
+    Restarting(Restart),
     Expiring,
     Cancelling,
     Acting,
@@ -78,12 +80,23 @@ fn usual(state: &State, n: usize) -> Turn
     match state.serving(n) {
         Some(servicing) => Turn::Serving(servicing),
         None => match state.status(n) {
-            Status::Running => Turn::Acting,
+            Status::Running => running(state, n),
             Status::Accepting | Status::Delaying => Turn::Expiring,
             Status::Calling => Turn::Cancelling,
             Status::Created | Status::Activating | Status::Completed | Status::Terminated => {
                 Turn::Resting
             }
         },
+    }
+}
+
+// That of one that runs.
+fn running(state: &State, n: usize) -> Turn
+    ensures { (plan : Plan) → (code : Flat) → run.running plan (barrier_at code) (own_of n state.now).restart
+        (coming_in plan code n state.now) ≡ turned plan code n state.now result }
+{
+    match state.restart(n) {
+        Some(restart) => Turn::Restarting(restart),
+        None => Turn::Acting,
     }
 }

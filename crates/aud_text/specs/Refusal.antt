@@ -1,7 +1,7 @@
 -- The number and the words of each refusal.
 use Rattle.std.specs.Prelude.{ℕ, List, codes}
 use Rattle.aud_text.specs.declared.refusal.Refusal.{Refusal}
-use Rattle.aud_text.specs.declared.refusal.Refusal.TheVariants.{UnknownCommand, BadArgument, LineTooLong, JournalFull, NoProgram, NoSuchTask, NoSuchMove, StepBudget, ChoicesFull, NotAscii, Lexical, Syntax, SourceTooLong, TooDeep, NameNotDeclared, DeclaredTwice, WrongKindOfName, WrongType, WrongNumberOfArguments, NotAVariable, WrongNameAtEnd, NoMatchingBody, AcceptOrCountOutOfPlace, FormalsDoNotConform, ExitWithoutLoop, ReturnOutOfPlace, RaiseWithoutHandler, BadHandlerChoice, FunctionCallOutOfPlace, NumberTooLarge, TooManyDecimals, ChangeWithinFunction, ParameterInBarrier, NotAnEntry, OutOfMemory}
+use Rattle.aud_text.specs.declared.refusal.Refusal.TheVariants.{UnknownCommand, BadArgument, LineTooLong, JournalFull, NoProgram, NoSuchTask, NoSuchMove, StepBudget, ChoicesFull, NotAscii, Lexical, Syntax, SourceTooLong, TooDeep, NameNotDeclared, DeclaredTwice, WrongKindOfName, WrongType, WrongNumberOfArguments, NotAVariable, WrongNameAtEnd, NoMatchingBody, AcceptOrCountOutOfPlace, FormalsDoNotConform, ExitWithoutLoop, ReturnOutOfPlace, RaiseWithoutHandler, BadHandlerChoice, FunctionCallOutOfPlace, NumberTooLarge, TooManyDecimals, ChangeWithinFunction, ParameterInBarrier, NotAnEntry, RequeueOutOfPlace, ExternalRequeue, TargetDeclaredInside, OutOfMemory}
 
 abbrev pub told : Refusal → ℕ × List ℕ
 told UnknownCommand = (10, codes "unknown command")
@@ -38,6 +38,9 @@ told TooManyDecimals = (46, codes "too many decimals")
 told ChangeWithinFunction = (47, codes "change within a function")
 told ParameterInBarrier = (48, codes "parameter in barrier")
 told NotAnEntry = (49, codes "not an entry")
+told RequeueOutOfPlace = (50, codes "requeue out of place")
+told ExternalRequeue = (51, codes "external requeue in a protected body")
+told TargetDeclaredInside = (52, codes "target declared inside")
 told OutOfMemory = (90, codes "out of memory")
 
 -- the number after the letter E; of two faults at one place the one with the lesser number is reported

@@ -40,6 +40,9 @@ pub enum Refusal {
     ChangeWithinFunction,
     ParameterInBarrier,
     NotAnEntry,
+    RequeueOutOfPlace,
+    ExternalRequeue,
+    TargetDeclaredInside,
     OutOfMemory,
 }
 
@@ -98,6 +101,9 @@ impl Refusal {
             Refusal::ChangeWithinFunction => (47, b"change within a function"),
             Refusal::ParameterInBarrier => (48, b"parameter in barrier"),
             Refusal::NotAnEntry => (49, b"not an entry"),
+            Refusal::RequeueOutOfPlace => (50, b"requeue out of place"),
+            Refusal::ExternalRequeue => (51, b"external requeue in a protected body"),
+            Refusal::TargetDeclaredInside => (52, b"target declared inside"),
             Refusal::OutOfMemory => (90, b"out of memory"),
         }
     }

@@ -217,6 +217,27 @@ impl Drop for Callee {
     }
 }
 
+/// The entry, of this number, at which a call is made again, whether it has formals, and whether the call can be cancelled there as
+/// before (RM 9.5.4).
+pub struct Requeue {
+    pub callee: Callee,
+    pub entry: usize,
+    pub with_formals: bool,
+    pub with_abort: bool,
+}
+
+impl Drop for Requeue {
+    fn drop(self) {
+        let Requeue {
+            callee,
+            entry: _,
+            with_formals: _,
+            with_abort: _,
+        } = self;
+        drop(callee);
+    }
+}
+
 /// A text, which is put out.
 #[derive(Drop)]
 pub enum TextExpression {
@@ -357,6 +378,8 @@ pub enum Statement {
     Select(Box<SelectStatement>),
     /// These tasks, and those that depend on them, become abnormal (RM 9.8).
     Abort(Pos, Vec<TaskName>),
+    /// The accept or entry body is left in which it stands, and its call is made again (RM 9.5.4).
+    Requeue(Pos, Box<Requeue>),
 }
 
 impl Drop for Statement {
@@ -398,6 +421,7 @@ impl Drop for Statement {
             Statement::Accept(accept) => drop(accept),
             Statement::Select(select) => drop(select),
             Statement::Abort(_, tasks) => drop(tasks),
+            Statement::Requeue(_, requeue) => drop(requeue),
         }
     }
 }

@@ -220,7 +220,7 @@ accepting_grows x around n t f = f
 
 accept_grows : (at : Pos) (i : Ident) (fs : List plain.Formal) (x : plain.Doing) (around : Around) (n : Place) (t : Tables) → ((r : Region) (within : Around) → DoingGrows x i r within n t) → AcceptGrows (plain.accept at i fs x) around n t
 unfolding AcceptGrows DoingGrows
-accept_grows at i fs x around n t f = f (accepts.accept_formals fs n).region (s.in_accept (accepts.accepted i n) around)
+accept_grows at i fs x around n t f = f (accepts.accept_formals fs n).region (s.in_accept (accepts.accepted i n) (accepts.accept_formals fs n).profile around)
 
 without_do_grows : (i : Ident) (r : Region) (around : Around) (n : Place) (t : Tables) → DoingGrows plain.without_do i r around n t
 unfolding DoingGrows
@@ -324,8 +324,8 @@ operation_of_grows head at i fs ds b o awaited t f g =
     let found = operations.part_awaited head i o awaited in
     let inner : Place = names.place_in region here.regions in
     let entry : Tables = operations.operation_tables head found region here t in
-    let around : Around = s.operation_around head i fs here in
-    let unit = s.checked_operation_unit head at i fs ds b here inner entry in
+    let around : Around = s.operation_around head i fs o.object here in
+    let unit = s.checked_operation_unit head at i fs ds b o.object here inner entry in
     put_grows (operations.operation_unit found t) unit.made t unit.tables (further {u = entry} (operation_tables_grow head found region here t) (entering_grows false ds b around inner entry (f inner (region_kept entry)) (g around)))
 
 entry_body_grows : (at : Pos) (i : Ident) (fs : List plain.Formal) (barrier : plain.Expression) (ds : plain.Declarations) (b : plain.Body) (o : BodyPlaces) (awaited : List AwaitedPart) (t : Tables)

@@ -122,6 +122,10 @@ empty_scoped known outer full level h = record {
 pub owned_scoped : (known : Known) (outer : Scope) (full : Elaborated) (own : Option Variable) (r : Region) → RegionScoped known outer full r → RegionScoped known outer full (record r { own = own })
 owned_scoped known outer full own r h = record { level = h.level; symbols = h.symbols; named = h.named; celled = h.celled; entries = h.entries; parts = h.parts }
 
+-- whether it is that of an accept's formals or not
+pub accept_scoped : (known : Known) (outer : Scope) (full : Elaborated) (r : Region) → RegionScoped known outer full r → RegionScoped known outer full (record r { accept = true })
+accept_scoped known outer full r h = record { level = h.level; symbols = h.symbols; named = h.named; celled = h.celled; entries = h.entries; parts = h.parts }
+
 -- all of it is elaborated
 pub all_elaborated : (known : Known) (outer : Scope) (full : Elaborated) (r : Region) → RegionScoped known outer full r → all_of_table (regions.shown_names r.symbols) ≡ elaborated r
 all_elaborated known outer full r h =

@@ -131,7 +131,7 @@ abbrev mutual
   in_statement _ around n t scope = []
 
   pub in_accept : plain.Accept → Around → Place → Tables → Scope → List Entry
-  in_accept (plain.accept at i fs x) around n t scope = in_doing x (accepts.accept_formals fs n).region (s.in_accept (accepts.accepted i n) around) n t scope
+  in_accept (plain.accept at i fs x) around n t scope = in_doing x (accepts.accept_formals fs n).region (s.in_accept (accepts.accepted i n) (accepts.accept_formals fs n).profile around) n t scope
 
   pub in_doing : plain.Doing → Region → Around → Place → Tables → Scope → List Entry
   in_doing plain.without_do r around n t scope = []
@@ -199,18 +199,18 @@ abbrev mutual
 
   pub in_operation : plain.OperationBody → BodyPlaces → List AwaitedPart → Tables → Scope → List Entry
   in_operation (plain.entry_body at i fs barrier ds b) o awaited t frames =
-      of_body_of (of_entry barrier) i fs (λ inner kept. of_entered (λ own. in_declarations ds inner (region_kept kept) own) (λ m u within. in_body b (s.operation_around (of_entry barrier) i fs o.inside) m u within) (s.checked_declarations ds inner (region_kept kept)) kept frames) o awaited t frames
+      of_body_of (of_entry barrier) i fs (λ inner kept. of_entered (λ own. in_declarations ds inner (region_kept kept) own) (λ m u within. in_body b (s.operation_around (of_entry barrier) i fs o.object o.inside) m u within) (s.checked_declarations ds inner (region_kept kept)) kept frames) o awaited t frames
   in_operation (plain.procedure_body at i fs ds b) o awaited t frames =
-      of_body_of operations.of_procedure i fs (λ inner kept. of_entered (λ own. in_declarations ds inner (region_kept kept) own) (λ m u within. in_body b (s.operation_around operations.of_procedure i fs o.inside) m u within) (s.checked_declarations ds inner (region_kept kept)) kept frames) o awaited t frames
+      of_body_of operations.of_procedure i fs (λ inner kept. of_entered (λ own. in_declarations ds inner (region_kept kept) own) (λ m u within. in_body b (s.operation_around operations.of_procedure i fs o.object o.inside) m u within) (s.checked_declarations ds inner (region_kept kept)) kept frames) o awaited t frames
   in_operation (plain.function_body at i fs mark ds b) o awaited t frames =
-      of_body_of (of_function mark) i fs (λ inner kept. of_entered (λ own. in_declarations ds inner (region_kept kept) own) (λ m u within. in_body b (s.operation_around (of_function mark) i fs o.in_function) m u within) (s.checked_declarations ds inner (region_kept kept)) kept frames) o awaited t frames
+      of_body_of (of_function mark) i fs (λ inner kept. of_entered (λ own. in_declarations ds inner (region_kept kept) own) (λ m u within. in_body b (s.operation_around (of_function mark) i fs o.object o.in_function) m u within) (s.checked_declarations ds inner (region_kept kept)) kept frames) o awaited t frames
 
 abbrev pub in_entered : plain.Declarations → plain.Body → Around → Place → Tables → Scope → List Entry
 in_entered ds b around n t outer = of_entered (λ inner. in_declarations ds n (region_kept t) inner) (λ m u inner. in_body b around m u inner) (s.checked_declarations ds n (region_kept t)) t outer
 
 -- the same of the body of an operation by what it is of
 abbrev pub in_operation_of : Head → Ident → List plain.Formal → plain.Declarations → plain.Body → BodyPlaces → List AwaitedPart → Tables → Scope → List Entry
-in_operation_of head i fs ds b o awaited t frames = of_body_of head i fs (λ inner kept. in_entered ds b (s.operation_around head i fs (operations.operation_place head o)) inner kept frames) o awaited t frames
+in_operation_of head i fs ds b o awaited t frames = of_body_of head i fs (λ inner kept. in_entered ds b (s.operation_around head i fs o.object (operations.operation_place head o)) inner kept frames) o awaited t frames
 
 -- As many as are declared. That stands under a name of its own for each construct, so that the recursion below looks at nothing else.
 
@@ -437,7 +437,7 @@ accepting_counted x around n t scope f = f
 
 accept_counted : (at : Pos) (i : Ident) (fs : List plain.Formal) (x : plain.Doing) (around : Around) (n : Place) (t : Tables) (scope : Scope) → ((r : Region) (within : Around) → DoingCounted x i r within n t scope) → AcceptCounted (plain.accept at i fs x) around n t scope
 unfolding AcceptCounted DoingCounted
-accept_counted at i fs x around n t scope f = f (accepts.accept_formals fs n).region (s.in_accept (accepts.accepted i n) around)
+accept_counted at i fs x around n t scope f = f (accepts.accept_formals fs n).region (s.in_accept (accepts.accepted i n) (accepts.accept_formals fs n).profile around)
 
 without_do_counted : (i : Ident) (r : Region) (around : Around) (n : Place) (t : Tables) (scope : Scope) → DoingCounted plain.without_do i r around n t scope
 unfolding DoingCounted
@@ -564,8 +564,8 @@ operation_of_counted head at i fs ds b o awaited t frames f g =
     let found = operations.part_awaited head i o awaited in
     let inner : Place = names.place_in region here.regions in
     let kept : Tables = operations.operation_tables head found region here t in
-    let around : Around = s.operation_around head i fs here in
-    let own = s.checked_operation_unit head at i fs ds b here inner kept in
+    let around : Around = s.operation_around head i fs o.object here in
+    let own = s.checked_operation_unit head at i fs ds b o.object here inner kept in
     let within = in_entered ds b around inner kept frames in
     let count = entering_counted false ds b around inner kept frames (f inner (region_kept kept)) (g around) in
     both_counted (of_found found frames) within (length t.units) (length kept.units) (length (with_unit (operations.operation_unit found t) own.made own.tables).units) (found_counted found (operations.barrier_of head region here) t frames) (length-set own.tables.units (operations.operation_unit found t) own.made ∙ count)

@@ -69,7 +69,7 @@ pub record IsOperation (known : Known) (scope : Scope) (inside : Bool) (unit : �
   pub formals : length (slice_index_or known.profiles unit []) ≡ (entry_of known.entries unit).formals
   pub outer : known.complete ≡ true → Reached inside (entry_of known.entries unit).outer scope
 
--- and a protected entry from outside: its body is there
+-- and a protected entry: its body is there
 pub record IsEntryBody (known : Known) (scope : Scope) (number : ℕ) : Type 0 where
   pub entered : entry_unit known.plan number < length known.entries
   pub outer : known.complete ≡ true → AreAround (entry_of known.entries (entry_unit known.plan number)).outer scope
@@ -78,7 +78,7 @@ pub record IsEntryBody (known : Known) (scope : Scope) (number : ℕ) : Type 0 w
 abbrev pub OwnerScoped : Known → ℕ → Owner → Scope → Type 0
 OwnerScoped known number (Single v) scope = IsElaborated v scope
 OwnerScoped known number (Element a) scope = AreElaborated (task_array_at a) scope
-OwnerScoped known number (owner.Object x) scope = IsElaborated x.variable scope × (names.is_inside x.access ≡ false → IsEntryBody known scope number)
+OwnerScoped known number (owner.Object x) scope = IsElaborated x.variable scope × IsEntryBody known scope number
 
 abbrev pub IsEntry : Known → ℕ → Type 0
 IsEntry known number = number < length known.plan.entries
@@ -161,6 +161,11 @@ reached_more : (inside : Bool) (outer scope : Scope) (e : Elaborated) → Reache
 reached_more true outer scope e h = open_more outer scope e h
 reached_more false outer scope e h = around_more outer scope e h
 
+-- frames are open within themselves
+pub open_within : (outer : Scope) (e : Elaborated) → AreOpen outer (outer ++ e ∷ [])
+open_within [] e = tt
+open_within (x ∷ xs) e = (omega arith, open_within xs e)
+
 -- the frames around an object's are open where its own is too
 pub around_open : (outer scope : Scope) (e : Elaborated) → AreOpen outer scope → AreAround (outer ++ e ∷ []) scope
 around_open [] scope e h = tt
@@ -179,7 +184,7 @@ module _ (known : Known) (scope : Scope) (e : Elaborated) where
   owner_more : (number : ℕ) (x : Owner) → OwnerScoped known number x scope → OwnerScoped known number x (scope ++ e ∷ [])
   owner_more number (Single v) h = omega (arith, h, cells_more v.level scope e)
   owner_more number (Element a) h = omega (arith, h, cells_more a.first.level scope e)
-  owner_more number (owner.Object x) h = (omega (arith, h.0, cells_more x.variable.level scope e), λ c. entry_body_more number (h.1 c))
+  owner_more number (owner.Object x) h = (omega (arith, h.0, cells_more x.variable.level scope e), entry_body_more number h.1)
 
   part_more : (k : PartKind) → PartScoped known scope k → PartScoped known (scope ++ e ∷ []) k
   part_more (part.Entry number unit) h = (h.0, entry_body_more number h.1)
@@ -269,7 +274,7 @@ module _ (known : Known) (scope : Scope) where
 
   -- what is found behind an object's name outside its body
   kind_selected_scoped : (k : PartKind) (x : Instance) (p : plain.NamePart) (ps : plain.Parts) → PartScoped known scope k → IsElaborated x.variable scope → names.is_inside x.access ≡ false → VisibleScoped known scope (resolution.kind_selected k x p ps).denoted.meaning
-  kind_selected_scoped (part.Entry number unit) x p ps h e f = either (λ (y : Resolved). VisibleScoped known scope y.denoted.meaning) (resolution.is_last ps) _ _ (h.0, (e, λ c. h.1)) tt
+  kind_selected_scoped (part.Entry number unit) x p ps h e f = either (λ (y : Resolved). VisibleScoped known scope y.denoted.meaning) (resolution.is_last ps) _ _ (h.0, (e, h.1)) tt
   kind_selected_scoped (part.Operation unit subprogram) x p ps h e f = either (λ (y : Resolved). VisibleScoped known scope y.denoted.meaning) (resolution.is_last ps) _ _ (e, subst (λ b. IsOperation known scope b unit) (sym f) h) tt
   kind_selected_scoped (part.Component s) x p ps h e f = tt
 
@@ -330,7 +335,7 @@ module _ (known : Known) (scope : Scope) (whole : known.complete ≡ true) (c : 
   owner_when : (number : ℕ) (x : Owner) → OwnerScoped known number x scope → OwnerScoped (when c known) number x scope
   owner_when number (Single v) h = h
   owner_when number (Element a) h = h
-  owner_when number (owner.Object x) h = (h.0, λ z. entry_body_when number (h.1 z))
+  owner_when number (owner.Object x) h = (h.0, entry_body_when number h.1)
 
   part_when : (k : PartKind) → PartScoped known scope k → PartScoped (when c known) scope k
   part_when (part.Entry number unit) h = (h.0, entry_body_when number h.1)
@@ -386,7 +391,7 @@ module _ (known : Known) (scope : Scope) (more : List (List NamedParameter)) whe
   owner_later : (number : ℕ) (x : Owner) → OwnerScoped known number x scope → OwnerScoped (later more known) number x scope
   owner_later number (Single v) h = h
   owner_later number (Element a) h = h
-  owner_later number (owner.Object x) h = (h.0, λ z. let b = h.1 z in record { entered = b.entered; outer = b.outer })
+  owner_later number (owner.Object x) h = (h.0, record { entered = h.1.entered; outer = h.1.outer })
 
   part_later : (k : PartKind) → PartScoped known scope k → PartScoped (later more known) scope k
   part_later (part.Entry number unit) h = (h.0, record { entered = h.1.entered; outer = h.1.outer })

@@ -34,7 +34,7 @@ use Rattle.aud_check_bodies.specs.Operations as operations
 use Rattle.aud_check_bodies.specs.Operations.{Head, of_entry, of_procedure, of_function}
 use Rattle.aud_check_bodies.specs.Objects as objects
 use Rattle.aud_check_bodies.specs.Objects.{ObjectDeclared}
-use Rattle.aud_check_bodies.proofs.Scoping.Names.{Known, when, EntriesThere, PartsThere, Reached, MeaningScoped, SymbolsScoped, RegionsScoped, Fits, Sees, either, regions_more, regions_see, open_further}
+use Rattle.aud_check_bodies.proofs.Scoping.Names.{Known, when, EntriesThere, PartsThere, Reached, MeaningScoped, SymbolsScoped, RegionsScoped, Fits, Sees, either, regions_more, regions_see, open_further, open_within, around_open}
 use Rattle.aud_check_bodies.proofs.Scoping.Expressions.{initial_scoped, condition_scoped}
 use Rattle.aud_check_bodies.proofs.Scoping.Declarations.{elaborated, InBody, body_regions}
 use Rattle.aud_check_bodies.proofs.Scoping.Alike.{with_new, OfObject, of_object_append, nat_eq_self, own_frame, its_frame, parts_append, parts_level, parts_entries, parts_parts}
@@ -251,7 +251,7 @@ module _ (plan : Plan) (entries : List Entry) where
       let leveled : level ≡ length here = omega (arith, inside.innermost.level, length_push outer (elaborated (names.innermost n))) in
       let none : SymbolsScoped known scope frame.symbols = All-nil (λ (s : Symbol). MeaningScoped known scope s.1) in
       let own_symbols : SymbolsScoped known scope (with_parts there ps frame).symbols =
-      parts_added plan entries base x.tables frames here e false number level Outside ps frame refl leveled some (λ z. cc) (omega (arith, more, ap (λ (z : Region). z.cells) h.own)) h.are none in
+      parts_added plan entries base x.tables frames here e false number level Outside ps frame refl leveled some (λ z. cc) (λ z. cc) (omega (arith, more, ap (λ (z : Region). z.cells) h.own)) h.are none in
       let own_entries : EntriesThere known (with_parts there ps frame).entries = subst (EntriesThere known) (sym (parts_entries there ps frame)) tt in
       let own_parts : PartsThere known scope (with_parts there ps frame).parts = subst (PartsThere known scope) (sym (parts_parts there ps frame)) tt in
       let there_parts = parts_there plan entries base x.tables frames scope false number ps (λ z. cc) h.its h.are in
@@ -328,7 +328,7 @@ module _ (plan : Plan) (entries : List Entry) where
       let whole : elaborated r ≡ e = body_frames access name object n ∙ same in
       let reach : Reached (names.is_inside access) here here = subst (λ b. Reached b here here) (sym within) (open_further scope e e (omega arith)) in
       let none : SymbolsScoped known here frame.symbols = All-nil (λ (s : Symbol). MeaningScoped known here s.1) in
-      let own_symbols : SymbolsScoped known here r.symbols = parts_added plan entries base t here scope e true object level access ps frame refl leveled some (λ z. reach) (omega (arith, ap (λ (z : Elaborated). z.cells) whole)) are none in
+      let own_symbols : SymbolsScoped known here r.symbols = parts_added plan entries base t here scope e true object level access ps frame refl leveled some (λ z. reach) (λ z. around_open scope here e (open_within scope e)) (omega (arith, ap (λ (z : Elaborated). z.cells) whole)) are none in
       let own_entries : EntriesThere known r.entries = subst (EntriesThere known) (sym (parts_entries there ps frame)) tt in
       let own_parts : PartsThere known here r.parts = subst (PartsThere known here) (sym (parts_parts there ps frame)) tt in
       let around_is = All-from_recursion (λ (s : Symbol). MeaningScoped known here s.1) (named.around_object name there n).symbols (own_number_there scope e level leveled some, tt) in

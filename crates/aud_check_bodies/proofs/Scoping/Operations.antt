@@ -119,23 +119,19 @@ module _ (plan : Plan) (entries : List Entry) where
       let here : cells_at level (outer ++ e ∷ []) ≡ e.cells = ap (λ x. x.cells) (get_or_push outer e none_yet level (sym h)) in
       omega (arith, here, more)
 
-  around_if : (inside : Bool) (frames scope : Scope) → inside ≡ false → Reached inside frames scope → AreAround frames scope
-  around_if false frames scope p h = h
-  around_if true frames scope p h = cc
-
   meaning_of_part : (base : ℕ) (t : Tables) (frames outer : Scope) (e : Elaborated) (c : Bool) (level object index : ℕ) (a : Access) (k : PartKind)
-      → level ≡ length outer → 1 ≤ e.cells → (c ≡ true → Reached (names.is_inside a) frames (outer ++ e ∷ [])) → index + objects.part_cells k ≤ e.cells → PartIs base t frames k
+      → level ≡ length outer → 1 ≤ e.cells → (c ≡ true → Reached (names.is_inside a) frames (outer ++ e ∷ [])) → (c ≡ true → AreAround frames (outer ++ e ∷ [])) → index + objects.part_cells k ≤ e.cells → PartIs base t frames k
       → MeaningScoped (when c (seen plan entries t)) (outer ++ e ∷ []) (objects.part_meaning k (own_instance level object a) (record { level = level; index = index }))
-  meaning_of_part base t frames outer e c level object index a (part.Entry number unit) l more reach enough h =
-      (h.there, (own_here level 0 outer e l (omega (arith, more)), λ f. is_entry_body base t frames (outer ++ e ∷ []) c number unit (λ z. around_if (names.is_inside a) frames (outer ++ e ∷ []) f (reach z)) h))
-  meaning_of_part base t frames outer e c level object index a (part.Operation unit subprogram) l more reach enough h =
+  meaning_of_part base t frames outer e c level object index a (part.Entry number unit) l more reach around enough h =
+      (h.there, (own_here level 0 outer e l (omega (arith, more)), is_entry_body base t frames (outer ++ e ∷ []) c number unit around h))
+  meaning_of_part base t frames outer e c level object index a (part.Operation unit subprogram) l more reach around enough h =
       (own_here level 0 outer e l (omega (arith, more)), is_operation base t frames (outer ++ e ∷ []) c (names.is_inside a) unit reach h)
-  meaning_of_part base t frames outer e c level object index a (part.Component s) l more reach enough h = own_here level index outer e l (omega (arith, enough))
+  meaning_of_part base t frames outer e c level object index a (part.Component s) l more reach around enough h = own_here level index outer e l (omega (arith, enough))
 
   part_added : (base : ℕ) (t : Tables) (frames outer : Scope) (e : Elaborated) (c : Bool) (object : ℕ) (a : Access) (name : List ℕ) (k : PartKind) (r : Region)
-      → r.level ≡ length outer → 1 ≤ e.cells → (c ≡ true → Reached (names.is_inside a) frames (outer ++ e ∷ [])) → (with_part name k (own_instance r.level object a) r).cells ≤ e.cells → PartIs base t frames k
+      → r.level ≡ length outer → 1 ≤ e.cells → (c ≡ true → Reached (names.is_inside a) frames (outer ++ e ∷ [])) → (c ≡ true → AreAround frames (outer ++ e ∷ [])) → (with_part name k (own_instance r.level object a) r).cells ≤ e.cells → PartIs base t frames k
       → SymbolsScoped (when c (seen plan entries t)) (outer ++ e ∷ []) r.symbols → SymbolsScoped (when c (seen plan entries t)) (outer ++ e ∷ []) (with_part name k (own_instance r.level object a) r).symbols
-  part_added base t frames outer e c object a name k r l more reach enough h i = by (names.is_declared name r.symbols) enough
+  part_added base t frames outer e c object a name k r l more reach around enough h i = by (names.is_declared name r.symbols) enough
     where
       x : Instance
       x = own_instance r.level object a
@@ -144,14 +140,14 @@ module _ (plan : Plan) (entries : List Entry) where
       by true q = i
       by false q =
           All-push (λ (s : Symbol). MeaningScoped (when c (seen plan entries t)) (outer ++ e ∷ []) s.1) r.symbols (name, objects.part_meaning k x (record { level = r.level; index = r.cells })) i
-          (meaning_of_part base t frames outer e c r.level object r.cells a k l more reach q h)
+          (meaning_of_part base t frames outer e c r.level object r.cells a k l more reach around q h)
 
   pub parts_added : (base : ℕ) (t : Tables) (frames outer : Scope) (e : Elaborated) (c : Bool) (object level : ℕ) (a : Access) (ps : List ObjectPart) (r : Region)
-      → r.level ≡ level → level ≡ length outer → 1 ≤ e.cells → (c ≡ true → Reached (names.is_inside a) frames (outer ++ e ∷ [])) → (with_parts (own_instance level object a) ps r).cells ≤ e.cells → PartsAre base t frames object ps
+      → r.level ≡ level → level ≡ length outer → 1 ≤ e.cells → (c ≡ true → Reached (names.is_inside a) frames (outer ++ e ∷ [])) → (c ≡ true → AreAround frames (outer ++ e ∷ [])) → (with_parts (own_instance level object a) ps r).cells ≤ e.cells → PartsAre base t frames object ps
       → SymbolsScoped (when c (seen plan entries t)) (outer ++ e ∷ []) r.symbols → SymbolsScoped (when c (seen plan entries t)) (outer ++ e ∷ []) (with_parts (own_instance level object a) ps r).symbols
-  parts_added base t frames outer e c object level a [] r q l more reach enough h i = i
-  parts_added base t frames outer e c object level a (p ∷ ps) r q l more reach enough h i =
-      parts_added base t frames outer e c object level a ps one (one_level ∙ q) l more reach enough h.1 (by (nat_eq object p.object) refl)
+  parts_added base t frames outer e c object level a [] r q l more reach around enough h i = i
+  parts_added base t frames outer e c object level a (p ∷ ps) r q l more reach around enough h i =
+      parts_added base t frames outer e c object level a ps one (one_level ∙ q) l more reach around enough h.1 (by (nat_eq object p.object) refl)
     where
       x : Instance
       x = own_instance level object a
@@ -172,7 +168,7 @@ module _ (plan : Plan) (entries : List Entry) where
       its b =
           let small : (with_part p.name p.part.kind x r).cells ≤ e.cells = subst (λ d. (if d then with_part p.name p.part.kind x r else r).cells ≤ e.cells) b one_enough in
           subst (λ k. scoped (with_part p.name p.part.kind (own_instance k object a) r)) q
-          (part_added base t frames outer e c object a p.name p.part.kind r (q ∙ l) more reach (subst (λ k. (with_part p.name p.part.kind (own_instance k object a) r).cells ≤ e.cells) (sym q) small) (h.0 (nat_eq_true object p.object b)) i)
+          (part_added base t frames outer e c object a p.name p.part.kind r (q ∙ l) more reach around (subst (λ k. (with_part p.name p.part.kind (own_instance k object a) r).cells ≤ e.cells) (sym q) small) (h.0 (nat_eq_true object p.object b)) i)
 
       by : (b : Bool) → nat_eq object p.object ≡ b → scoped (if b then with_part p.name p.part.kind x r else r)
       by true b = its b

@@ -138,13 +138,13 @@ module _ (plan : Plan) (entries : List Entry) where
       inner = names.place_in shape.region here.regions
 
       around : Around
-      around = s.operation_around head i fs here
+      around = s.operation_around head i fs o.object here
 
       entry : Option PartKind → Tables
       entry found = operations.operation_tables head found shape.region here t
 
       checked : Place → Tables → Outcome tree.UnitBody
-      checked m u = s.checked_operation_unit head at i fs ds b here m u
+      checked m u = s.checked_operation_unit head at i fs ds b o.object here m u
 
       last : Option PartKind → Tables
       last found = with_unit (operations.operation_unit found t) (checked inner (entry found)).made (checked inner (entry found)).tables

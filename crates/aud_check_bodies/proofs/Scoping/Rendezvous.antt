@@ -25,7 +25,7 @@ use Rattle.aud_check_bodies.specs.Statements as s
 use Rattle.aud_check_bodies.specs.Statements.{Around}
 use Rattle.aud_check_bodies.proofs.Scoping.Names.{when, IsEntry, VisibleScoped, regions_see, regions_more, regions_when}
 use Rattle.aud_check_bodies.proofs.Scoping.Expressions.{maybe_condition_scoped}
-use Rattle.aud_check_bodies.proofs.Scoping.Declarations.{elaborated, all_elaborated, both_none, InBody, formals_scoped, in_frame}
+use Rattle.aud_check_bodies.proofs.Scoping.Declarations.{elaborated, all_elaborated, both_none, InBody, formals_scoped, accept_scoped, in_frame}
 use Rattle.aud_check_bodies.proofs.Scoping.Tables.{further, region_grows}
 use Rattle.aud_check_bodies.proofs.Scoping.ConstructTables.{accepts_grow, alternative_grows, alternatives_grow, otherwise_grows, others_grow, body_grows}
 use Rattle.aud_check_bodies.proofs.Scoping.Plans.{seen, first_in_plan, second_in_plan, entered_table}
@@ -59,12 +59,12 @@ module _ (plan : Plan) (entries : List Entry) where
       let known = seen plan entries t in
       let sees = regions_see known scope n fits.regions in
       let formals = accepts.accept_formals fs n in
-      let within = s.in_accept (accepts.accepted i n) around in
+      let within = s.in_accept (accepts.accepted i n) formals.profile around in
       let o = s.checked_doing x i formals.region within n t in
       let accepted = accepts.accepted_faults (names.visible i.name n) i.at formals.profile around.accepting n t in
       let parts = both_none (formals.faults ++ accepted) (o.faults ++ []) q in
       let heads = both_none formals.faults accepted parts.0 in
-      let formed = formals_scoped known scope none_yet None fs (names.next_frame n) n.regions heads.0 (in_frame known scope none_yet n refl fits).innermost in
+      let formed = formals_scoped known scope none_yet None fs (names.accept_frame n) n.regions heads.0 (accept_scoped known scope none_yet (names.next_frame n) (in_frame known scope none_yet n refl fits).innermost) in
       let begun : elaborated formals.region ≡ all_formals (length formals.profile) = counted_frame formals.region.names formals.region.cells (length formals.profile) formed.1 formed.2 in
       let doing = f formals.region within (length formals.profile) formed.0 begun fits p r (both_none o.faults [] parts.1).0 in
       ((accepted_there (names.visible i.name n) i.at formals.profile around.accepting n t scope heads.1 (sees.visible i.name), doing.0), doing.1)

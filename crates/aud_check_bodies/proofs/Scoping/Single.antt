@@ -162,9 +162,9 @@ module _ (known : Known) (scope : Scope) where
   entry_call_scoped at form p q None f h i c = (tt, refl)
   entry_call_scoped at form p q (Some x) f h i c = entry_call_to_scoped x.whose at x.entry x.arguments form p q f h i c.0 c.1 c.2
 
-  object_scoped : known.complete ≡ true → (inside : Bool) (x : Instance) (n : ℕ) → IsElaborated x.variable scope → (inside ≡ false → IsEntryBody known scope n) → WhoseScoped n (calls.called_object inside x)
+  object_scoped : known.complete ≡ true → (inside : Bool) (x : Instance) (n : ℕ) → IsElaborated x.variable scope → IsEntryBody known scope n → WhoseScoped n (calls.called_object inside x)
   object_scoped whole true x n v h = tt
-  object_scoped whole false x n v h = let body = h refl in (v, (body.entered, body.outer whole))
+  object_scoped whole false x n v h = (v, (h.entered, h.outer whole))
 
   owner_scoped : known.complete ≡ true → (x : Owner) (n : ℕ) (t : Typed) → OwnerScoped known n x scope → TypedScoped scope t → IfSome (calls.called_owner x t) (WhoseScoped n)
   owner_scoped whole (Single v) n t h i = (h, tt)

@@ -23,6 +23,7 @@ use Rattle.aud_check_bodies.proofs.Scoping.Plans.{seen, first_in_plan, second_in
 use Rattle.aud_check_bodies.proofs.Scoping.Entries.{in_statement, in_arms, in_statements, in_others, statement_counted, arms_counted, statements_counted, first_ready, second_ready}
 use Rattle.aud_check_bodies.proofs.Scoping.Units.{none_between, units_join, fits_grown}
 use Rattle.aud_check_bodies.proofs.Scoping.Aborts.{abort_scoped}
+use Rattle.aud_check_bodies.proofs.Scoping.Requeues.{requeue_scoped}
 use Rattle.aud_check_bodies.proofs.Scoping.Single.{call_scoped, assign_scoped, delay_scoped, before_scoped, part_scoped, arms_then_scoped, raise_scoped}
 use Rattle.aud_check_bodies.proofs.Scoping.Constructs.{StatementFine, ArmsFine, StatementsFine, OthersFine}
 use Rattle.aud_check_bodies.proofs.Scoping.Bodies.{fits_table}
@@ -178,4 +179,4 @@ module _ (plan : Plan) (entries : List Entry) where
 
   pub requeue_fine : (at : Pos) (x : plain.Name) (with_abort : Bool) (around : Around) (n : Place) (t : Tables) (scope : Scope) → StatementFine plan entries (plain.requeue at x with_abort) around n t scope
   unfolding StatementFine
-  requeue_fine at x with_abort around n t scope = λ fits p r q. ((tt, refl), none_between plan entries t)
+  requeue_fine at x with_abort around n t scope = λ fits p r q. (requeue_scoped plan entries at x with_abort n t scope fits, none_between plan entries t)

@@ -11,10 +11,10 @@ use Rattle.aud_meaning.specs.declared.state.Owner.TheVariants as owner
 use Rattle.aud_meaning.specs.Evaluation.{with_value, evaluated, decided, value_of, delay_of, task_named, number_in, option_target, passed, Passed}
 use Rattle.aud_meaning.specs.Control.{Scene, Asked, Called}
 use Rattle.aud_meaning.specs.Control as asked
-use Rattle.aud_meaning.specs.Statements.{or_raises, or_raises_in_part, branch, both, components, names_tasks, called, Entered, entered_with, asked_statement, asked_call}
-use Rattle.aud_code.specs.Instruction.{Instruction, Name, Mark, Ending, DeclareObject, If, While, Loop, Exit, ReturnValue, Proc, OwnCall, Operation, CallTask, CallObject, Delay, Abort, Operands, no_operands, Ended}
+use Rattle.aud_meaning.specs.Statements.{or_raises, or_raises_in_part, branch, both, components, names_tasks, called, Entered, entered_with, asked_statement, asked_call, again_at, asked_requeue}
+use Rattle.aud_code.specs.Instruction.{Instruction, Name, Mark, Ending, DeclareObject, If, While, Loop, Exit, ReturnValue, Proc, OwnCall, Operation, CallTask, CallObject, Delay, Abort, RequeueTask, Operands, no_operands, Ended}
 use Rattle.aud_code.specs.Eval.{on_result, eval, form_in, asked_end, raised_by, asked_ended}
-use Rattle.aud_layout.specs.Instructions.{value_code, integer_code, condition_code, delay_code, arguments_code, names_code, components_code, form_kind, called_code, call_code, call_end, entered_code, instructions_of, ending_of}
+use Rattle.aud_layout.specs.Instructions.{value_code, integer_code, condition_code, delay_code, arguments_code, names_code, components_code, form_kind, called_code, call_code, call_end, requeue_code, requeue_end, entered_code, instructions_of, ending_of}
 use Rattle.aud_layout.proofs.Asking.Evals.{Ends, with_assoc, with_into, with_passed, eval_integer, eval_condition, eval_value, eval_into, eval_delay, eval_arguments, eval_task}
 use Rattle.aud_layout.proofs.Asking.Lists.{eval_names, eval_components}
 
@@ -115,6 +115,12 @@ module _ (loops : ℕ) (at : Pos) (s : Scene) where
       told : (n : ℕ) (r : Result Called Raise) → or_raises r at (λ call. asked.calls_entry (owner.Task n) call) ≡ or_raises (with_value r (λ call. Ok (n, call))) at (λ (x : ℕ × Called). asked.calls_entry (owner.Task x.0) x.1)
       told n (Ok call) = refl
       told n (Err raise) = refl
+
+  pub asks_requeue : (r : tree.Requeue) (callee : Callee) → asked_ended (requeue_end callee r) loops at s (Ends false s (requeue_code callee) no_operands) ≡ asked_requeue at r callee loops s
+  asks_requeue r (of_object v) = refl
+  asks_requeue r (of_task t) =
+      let go = λ (n : ℕ). Ends false s [] (record no_operands { names = n ∷ [] }) in
+      asks_last (RequeueTask r.entry r.with_formals r.with_abort) (λ raise. refl) (task_named t s.sight) (λ n. asked.requeues loops (again_at at r (owner.Task n))) go _ (eval_task false s t Name [] no_operands go (λ z. refl)) (λ n. refl)
 
   pub asks_procedure : (c : tree.Calling) → Asks (procedure_call at c) ≡ asked_statement (procedure_call at c) loops s
   asks_procedure c = asks_entered (Proc c.unit) (λ raise. refl) c (λ into p. asked.calls_procedure at c.unit p into) (go)

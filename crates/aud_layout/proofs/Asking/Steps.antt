@@ -3,16 +3,17 @@ use Rattle.std.proofs.Common.{◌≡◌, ℕ, suc, ◌+◌, List, [], ◌∷◌,
 use Rattle.aud_text.specs.declared.place.Pos.{Pos}
 use Rattle.aud_text.specs.declared.raise.Raise.{Raise}
 use Rattle.aud_typed.specs.Tree as tree
-use Rattle.aud_typed.specs.Tree.{Callee, of_task, of_object, sequence, declare, declare_array, declare_tasks, declare_object, activated, activate, null, assign, put, if_then, plain_loop, while_loop, for_loop, exit, return, return_value, raising, raising_again, block, procedure_call, own_entry_call, operation_call, entry_call, delay, accept, select, abort, Part, Alternatives}
+use Rattle.aud_typed.specs.Tree.{Callee, of_task, of_object, declare, declare_object, null, assign, put, if_then, while_loop, for_loop, exit, return_value, procedure_call, own_entry_call, operation_call, entry_call, delay, select, abort, Part, Alternatives, requeue}
 use Rattle.aud_meaning.specs.declared.state.OpenDelay.{OpenDelay}
 use Rattle.aud_meaning.specs.Configuration.{Waits}
 use Rattle.aud_meaning.specs.Evaluation.{Sight, with_value, decided, task_named}
-use Rattle.aud_meaning.specs.Control.{Scene, Asked}
+use Rattle.aud_meaning.specs.declared.state.StepKind.TheVariants as kind
+use Rattle.aud_meaning.specs.Control.{Scene, Asked, simply}
 use Rattle.aud_meaning.specs.Control as asked
 use Rattle.aud_meaning.specs.Statements.{or_raises, has_else, guards_from, delay_expression, timed_from, waits_of, coming_call, open_or_none, task_or_none}
-use Rattle.aud_code.specs.Instruction.{Name, Mark, Select, Operands, no_operands, Reached, Marked}
+use Rattle.aud_code.specs.Instruction.{Name, Mark, Select, Operands, no_operands, Ended, Reached, Marked}
 use Rattle.aud_code.specs.Eval.{on_result, eval, asked_ended, coming_end, accepts_in, named_in}
-use Rattle.aud_layout.specs.Instructions.{condition_code, guards_code, delays_code, called_code, call_code, call_end}
+use Rattle.aud_layout.specs.Instructions.{condition_code, guards_code, delays_code, called_code, call_code, call_end, requeue_end}
 use Rattle.aud_code.specs.Flat.{no_scene, decided_by}
 use Rattle.aud_layout.specs.Asking.{AskedLaw, ComingLaw, BarrierLaw}
 use Rattle.aud_layout.proofs.Asking.Evals.{Ends, eval_condition, eval_task}
@@ -22,7 +23,7 @@ use Rattle.aud_layout.proofs.ByKind.Declaring.{declaration_law}
 use Rattle.aud_layout.proofs.ByKind.Idling.{null_law}
 use Rattle.aud_layout.proofs.ByKind.Assigning.{assignment_law}
 use Rattle.aud_layout.proofs.ByKind.Putting.{put_law}
-use Rattle.aud_layout.proofs.Asking.Statements.{at_end, asks_then, asks_object, asks_return, asks_delay, asks_abort, asks_for, asks_call, asks_procedure, asks_operation, asks_own, asks_if, asks_while, asks_exit}
+use Rattle.aud_layout.proofs.Asking.Statements.{at_end, asks_then, asks_object, asks_return, asks_delay, asks_abort, asks_for, asks_call, asks_requeue, asks_procedure, asks_operation, asks_own, asks_if, asks_while, asks_exit}
 
 one_and : (k : ℕ) → 1 + k ≡ suc k
 one_and k = omega arith
@@ -72,6 +73,7 @@ asked_law (entry_call at c p q) loops s = asks_call loops at s c c.callee
 asked_law (delay at e) loops s = asks_delay loops at s e
 asked_law (select at offered p) loops s = asks_select loops at s offered p
 asked_law (abort at ts) loops s = asks_abort loops at s ts
+asked_law (requeue at r) loops s = asks_requeue loops at s r r.callee
 asked_law a loops s = refl
 
 coming_callee : (plan : tree.Plan) (c : tree.EntryCall) (callee : Callee) (s : Sight) → coming_end plan (call_end callee c.entry c.form) s (eval true (no_scene s) (call_code callee c.arguments c.form) 0 no_operands) ≡ coming_call c callee s
@@ -85,6 +87,10 @@ coming_callee plan c (of_task t) s =
     named (Ok n) = refl
     named (Err raise) = refl
 
+coming_requeue : (plan : tree.Plan) (r : tree.Requeue) (c : Callee) (s : Sight) (x : Ended) → coming_end plan (requeue_end c r) s x ≡ simply kind.Requeue
+coming_requeue plan r (of_task t) s x = refl
+coming_requeue plan r (of_object v) s x = refl
+
 coming_select : (offered : Alternatives) (s : Sight) → accepts_in (eval true (no_scene s) (guards_code 1 offered ++ (Mark ∷ delays_code 1 offered)) 0 no_operands) ≡ open_or_none (guards_from 1 offered s)
 coming_select offered s = ap accepts_in (eval_guards true (no_scene s) offered 1 (Mark ∷ delays_code 1 offered) no_operands) ∙ opened (guards_from 1 offered s)
   where
@@ -95,6 +101,7 @@ coming_select offered s = ap accepts_in (eval_guards true (no_scene s) offered 1
 pub coming_law : ComingLaw
 coming_law plan (entry_call at c p q) s = coming_callee plan c c.callee s
 coming_law plan (select at offered p) s = ap asked.selecting (coming_select offered s)
+coming_law plan (requeue at r) s = coming_requeue plan r r.callee s _
 coming_law plan a s = refl
 
 pub barrier_law : BarrierLaw

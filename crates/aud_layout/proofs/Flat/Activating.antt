@@ -2,7 +2,7 @@
 use Rattle.std.proofs.Common.{◌≡◌, Bool, true, false, ℕ, suc, ◌+◌, List, [], ◌∷◌, ◌++◌, map, Option, Some, None}
 use Rattle.std.proofs.lemmas.Bool.{false≢true}
 use Rattle.aud_text.specs.declared.place.Pos.{Pos}
-use Rattle.aud_typed.specs.Tree.{Statement, sequence, activate, if_then, plain_loop, while_loop, for_loop, block, entry_call, accept, select, Part, nothing, some, Handlers, no_handlers, handler, Body, body, Doing, without_do, with_do, Alternatives, no_alternatives, accepting, delaying, terminating, Callee, of_task, of_object, CallForm, Program}
+use Rattle.aud_typed.specs.Tree.{Statement, sequence, activate, if_then, plain_loop, while_loop, for_loop, block, entry_call, accept, select, Part, nothing, some, Handlers, no_handlers, handler, Body, body, Doing, without_do, with_do, Alternatives, no_alternatives, accepting, delaying, terminating, Callee, of_task, of_object, CallForm, Program, requeue, Requeue}
 use Rattle.aud_meaning.specs.declared.state.Construct.{Construct}
 use Rattle.aud_meaning.specs.declared.state.Construct.TheVariants as construct
 use Rattle.aud_meaning.specs.Items.{no_body}
@@ -12,7 +12,7 @@ use Rattle.aud_code.specs.Frames.{found, Found}
 use Rattle.aud_code.specs.Sound.{IsStatement, ActivatesBefore}
 use Rattle.aud_layout.specs.Layout.{Line, Around, in_loop, in_for, in_block, in_call, around_out, ways_count, statement_size, part_size, body_size, doing_size, offered_size, main_size, end_place, stubs, stubs_of, part_place, statement_code, part_code, handlers_code, body_code, doing_code, offered_code, unit_code, units_code, code_of}
 use Rattle.aud_layout.specs.Assembly.{offset, last_by, assembled_from}
-use Rattle.aud_layout.specs.Instructions.{call_end}
+use Rattle.aud_layout.specs.Instructions.{call_end, requeue_end}
 use Rattle.aud_layout.specs.Shows.{HasAt}
 use Rattle.aud_layout.specs.Activations.{StatementActivates, PartActivates, HandlersActivate, BodyActivates, DoingActivates, OfferedActivates, BodiesActivate, ActivatesInParts}
 use Rattle.aud_layout.proofs.Standing.Places.{has_front, has_back, has_tail, has_all, body_at, offer_has, length-statement, length-part, length-offered, length-unit}
@@ -43,6 +43,10 @@ module _ (f : ℕ → ℕ) (X : List FlatLine) where
   calls_activate : (c : Callee) (entry : ℕ) (form : CallForm) (ns : List ℕ) → ActivatesBefore X (Does (call_end c entry form)) ns
   calls_activate (of_task t) entry form ns = tt
   calls_activate (of_object v) entry form ns = tt
+
+  requeue_activates : (c : Callee) (r : Requeue) (ns : List ℕ) → ActivatesBefore X (Does (requeue_end c r)) ns
+  requeue_activates (of_task t) r ns = tt
+  requeue_activates (of_object v) r ns = tt
 
 module _ (lines : List Line) where
   abbrev F : ℕ → ℕ
@@ -104,6 +108,7 @@ module _ (lines : List Line) where
         let rest = has_tail lines at _ _ h in
         one_then (record { before = tt })
         (both F X (offered_activates offered at (suc at) next a (has_front lines (suc at) _ _ rest) k.0) (part_activates false p second next a (has_back lines (suc at) _ _ _ (length-offered offered at (suc at) next a) rest) (inside next) k.1))
+    statement_activates declares (requeue pos r) at next a h to k = one_then (record { before = requeue_activates F X r.callee r (map F (next ∷ [])) }) no_more
     statement_activates declares s at next a h to k = one_then (record { before = tt }) no_more
 
     part_activates : (declares : Bool) (p : Part) (at next : ℕ) (a : Around) → HasAt lines at (part_code p at next a) → Behind declares next → PartActivates declares p → Each (part_code p at next a)

@@ -1,6 +1,6 @@
 -- The lines of each part of a program fit the frames around it.
 use Rattle.std.proofs.Common.{◌≡◌, inl, ℕ, suc, ◌+◌, List, [], ◌∷◌, ◌++◌, map, Option, Some, None, refl, sym, ap, ◌∙◌}
-use Rattle.aud_typed.specs.Tree.{Statement, sequence, declare, if_then, plain_loop, while_loop, for_loop, exit, return, return_value, block, entry_call, accept, select, Part, nothing, some, Handlers, no_handlers, handler, Body, body, Doing, without_do, with_do, Alternatives, no_alternatives, accepting, delaying, terminating, Callee, of_task, of_object, CallForm}
+use Rattle.aud_typed.specs.Tree.{Statement, sequence, declare, if_then, plain_loop, while_loop, for_loop, exit, return, return_value, block, entry_call, accept, select, Part, nothing, some, Handlers, no_handlers, handler, Body, body, Doing, without_do, with_do, Alternatives, no_alternatives, accepting, delaying, terminating, Callee, of_task, of_object, CallForm, requeue}
 use Rattle.aud_meaning.specs.declared.state.Construct.{Construct}
 use Rattle.aud_meaning.specs.declared.state.Construct.TheVariants as construct
 use Rattle.aud_code.specs.Places.{Way}
@@ -98,6 +98,7 @@ module _ (lines : List Line) where
     statement_fits (exit pos n c) at next a h k i = way_fits (exit pos n c) at next _ a k (exit_fits lines (M a.within) a.exits n next i.exits k) i
     statement_fits (return pos) at next a h k i = way_fits (return pos) at next a.back a k i.back i
     statement_fits (return_value pos x) at next a h k i = way_fits (return_value pos x) at next a.back a k i.back i
+    statement_fits (requeue pos r) at next a h k i = way_fits (requeue pos r) at next a.back a k i.back i
     statement_fits s at next a h k i = one_and (record { is = ((k, tt), (tt, (tt, i.out))) }) no_lines
 
     part_fits : (p : Part) (at next : ℕ) (a : Around) → HasAt lines at (part_code p at next a) → At X (F next) (M a.within) → AroundFits lines a → EachFits lines at (part_code p at next a)

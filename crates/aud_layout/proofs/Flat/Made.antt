@@ -1,10 +1,10 @@
 -- The instructions of expressions and statements are fine.
 use Rattle.std.proofs.Common.{◌≡◌, ℕ, suc, ◌+◌, List, [], ◌∷◌, ◌++◌, length, true, false, Option, Some, None, refl, sym, subst, append_assoc, append-nil}
 use Rattle.aud_typed.specs.Tree as tree
-use Rattle.aud_typed.specs.Tree.{IntegerExpression, number, variable, element, unary, binary, count, Reference, scalar, component, TaskName, single, indexed, BooleanExpression, truth, stored, negation, relation, comparison, logical, and_then, or_else, callable, terminated, ValueExpression, whole, boolean, TextExpression, literal, image, image_truth, join, new_line, DelayExpression, milliseconds, seconds, Argument, by_value, by_copy, CallForm, plainly, conditionally, timed, Callee, of_task, of_object, Statement, sequence, declare, declare_array, declare_tasks, declare_object, activated, activate, null, assign, put, if_then, plain_loop, while_loop, for_loop, exit, return, return_value, raising, raising_again, block, procedure_call, own_entry_call, operation_call, entry_call, delay, accept, select, abort, Alternatives, no_alternatives, accepting, delaying, terminating}
+use Rattle.aud_typed.specs.Tree.{IntegerExpression, number, variable, element, unary, binary, count, Reference, scalar, component, TaskName, single, indexed, BooleanExpression, truth, stored, negation, relation, comparison, logical, and_then, or_else, callable, terminated, ValueExpression, whole, boolean, TextExpression, literal, image, image_truth, join, new_line, DelayExpression, milliseconds, seconds, Argument, by_value, by_copy, CallForm, plainly, conditionally, timed, Callee, of_task, of_object, Statement, declare, declare_object, assign, put, if_then, while_loop, for_loop, exit, return_value, procedure_call, own_entry_call, operation_call, entry_call, delay, select, abort, Alternatives, no_alternatives, accepting, delaying, terminating, requeue}
 use Rattle.aud_meaning.specs.Statements.{region_of}
 use Rattle.aud_code.specs.Instruction.{Instruction, LoadElement, OnOne, OnTwo, Check, Cell, Truth, Negate, Relate, Compare, Combine, PassIfFalse, PassIfTrue, IsCallable, IsTerminated, FindElement, LoadFound, Pass, PassCopy, AppendImage, AppendTruth, Name, Seconds, Component, OpensAccept, OpensDelay, OpensTerminate, Mark, SetTime}
-use Rattle.aud_layout.specs.Instructions.{integer_code, loaded_code, reference_code, task_code, condition_code, value_code, text_code, delay_code, into_code, copied_code, arguments_code, form_code, components_code, names_code, guards_code, timed_code, delays_code, called_code, call_code, call_end, entered_code, instructions_of, ending_of}
+use Rattle.aud_layout.specs.Instructions.{integer_code, loaded_code, reference_code, task_code, condition_code, value_code, text_code, delay_code, into_code, copied_code, arguments_code, form_code, components_code, names_code, guards_code, timed_code, delays_code, called_code, call_code, call_end, requeue_code, requeue_end, entered_code, instructions_of, ending_of}
 use Rattle.aud_code.specs.Sound.{Counts, no_counts, AreFine, EndingFine}
 
 module _ (End : Counts → Type 0) where
@@ -139,6 +139,10 @@ fine_call : (c : tree.EntryCall) (callee : Callee) → AreFine (EndingFine (call
 fine_call c (of_task t) = fine_task _ t _ no_counts (fine_called _ c.arguments c.form (record no_counts { names = 1 }) tt)
 fine_call c (of_object v) = fine_called _ c.arguments c.form no_counts tt
 
+fine_requeue : (r : tree.Requeue) (callee : Callee) → AreFine (EndingFine (requeue_end callee r)) (requeue_code callee) 0 no_counts
+fine_requeue r (of_task t) = fine_task _ t (Name ∷ []) no_counts tt
+fine_requeue r (of_object v) = tt
+
 -- each statement's step finds its operands
 pub fine_statement : (a : Statement) → AreFine (EndingFine (ending_of a)) (instructions_of a) 0 no_counts
 fine_statement (declare at up_to e) = whole_code _ (value_code e) no_counts (fine_value _ e [] no_counts tt)
@@ -157,4 +161,5 @@ fine_statement (entry_call at c p q) = fine_call c c.callee
 fine_statement (delay at e) = whole_code _ (delay_code e) no_counts (fine_delay _ e [] no_counts tt)
 fine_statement (select at offered p) = fine_guards _ 1 offered (Mark ∷ delays_code 1 offered) no_counts (fine_delays _ 1 offered no_counts tt)
 fine_statement (abort at ts) = fine_names _ ts no_counts (λ d. tt)
+fine_statement (requeue at r) = fine_requeue r r.callee
 fine_statement a = tt

@@ -3,14 +3,14 @@ use Rattle.std.proofs.Common.{◌≡◌, ◌⊎◌, inl, inr, ℕ, zero, suc, �
 use Rattle.std.proofs.lemmas.Bool.{cases_lt}
 use Rattle.aud_typed.specs.declared.program.Variable.{Variable}
 use Rattle.aud_typed.specs.declared.program.ArrayAt.{ArrayAt}
-use Rattle.aud_typed.specs.Tree.{IntegerExpression, number, variable, element, unary, binary, count, Reference, scalar, component, TaskName, single, indexed, BooleanExpression, truth, stored, negation, relation, comparison, logical, and_then, or_else, callable, terminated, ValueExpression, whole, boolean, TextExpression, literal, image, image_truth, join, new_line, DelayExpression, milliseconds, seconds, Argument, by_value, by_copy, CallForm, plainly, conditionally, timed, Callee, of_task, of_object, Statement, sequence, declare, declare_array, declare_tasks, declare_object, assign, put, if_then, while_loop, for_loop, exit, return_value, procedure_call, own_entry_call, operation_call, entry_call, delay, select, abort, Alternatives, no_alternatives, accepting, delaying, terminating, Plan}
+use Rattle.aud_typed.specs.Tree.{IntegerExpression, number, variable, element, unary, binary, count, Reference, scalar, component, TaskName, single, indexed, BooleanExpression, truth, stored, negation, relation, comparison, logical, and_then, or_else, callable, terminated, ValueExpression, whole, boolean, TextExpression, literal, image, image_truth, join, new_line, DelayExpression, milliseconds, seconds, Argument, by_value, by_copy, CallForm, plainly, conditionally, timed, Callee, of_task, of_object, Statement, sequence, declare, declare_array, declare_tasks, declare_object, assign, put, if_then, while_loop, for_loop, exit, return_value, procedure_call, own_entry_call, operation_call, entry_call, delay, select, abort, Alternatives, no_alternatives, accepting, delaying, terminating, Plan, requeue}
 use Rattle.aud_typed.specs.Why.Scoped.{Elaborated, Scope, cells_at, IsElaborated, AreElaborated, IntegerScoped, ReferenceScoped, TaskScoped, AllTasksScoped, BooleanScoped, ValueScoped, ArgumentScoped, ArgumentsScoped, TextScoped, DelayScoped, FormScoped, CalleeScoped, IntoScoped, ComponentsScoped, own_number, in_innermost, declared_up_to, declared_with, scope_after, Entry, AreOpen, AreAround, StatementScoped, AlternativesScoped}
 use Rattle.aud_code.specs.Instruction.{Instruction}
 use Rattle.aud_code.specs.Seen.{IsWritten, ArrayOpen, Fewer, OutSees}
 use Rattle.aud_code.specs.Seen as seen
 use Rattle.aud_layout.specs.Layout.{What, does}
 use Rattle.aud_layout.specs.Assembly.{instructions_by}
-use Rattle.aud_layout.specs.Instructions.{integer_code, loaded_code, reference_code, task_code, names_code, condition_code, value_code, text_code, into_code, argument_code, arguments_code, delay_code, form_code, components_code, called_code, call_code, guards_code, timed_code, delays_code}
+use Rattle.aud_layout.specs.Instructions.{integer_code, loaded_code, reference_code, task_code, names_code, condition_code, value_code, text_code, into_code, argument_code, arguments_code, delay_code, form_code, components_code, called_code, call_code, requeue_code, guards_code, timed_code, delays_code}
 
 pub is_written : (o : Option ℕ) (n : ℕ) (P : ℕ → Type 0) → o ≡ Some n → P n → IsWritten o P
 is_written o n P e p = subst (λ x. IsWritten x P) (sym e) p
@@ -171,6 +171,10 @@ module _ (scope : Scope) where
   call_open (of_task t) xs f h k l = both N (task_code t) _ (task_open t h) (tt, (tt, called_open xs f k l))
   call_open (of_object v) xs f h k l = called_open xs f k l
 
+  requeue_open : (c : Callee) → CalleeScoped c scope → AllOpen N (requeue_code c)
+  requeue_open (of_task t) h = both N (task_code t) _ (task_open t h) (tt, tt)
+  requeue_open (of_object v) h = tt
+
   into_open : (r : Option Reference) → IntoScoped r scope → AllOpen N (into_code r)
   into_open None h = tt
   into_open (Some r) h = reference_open r h
@@ -216,6 +220,7 @@ module _ (scope : Scope) where
     statement_open (delay at e) h = delay_open scope e h
     statement_open (select at offered p) h = both M (guards_code 1 offered) _ (guards_open 1 offered h.0) (tt, delays_open 1 offered h.0)
     statement_open (abort at ts) h = tasks_open scope ts h
+    statement_open (requeue at r) h = requeue_open scope r.callee h.1
     statement_open s h = tt
 
   pub names_open : (plan : Plan) (entries : List Entry) (n : ℕ) (s : Statement) → length scope ≡ n → StatementScoped plan entries s scope → StepOpen n (does s)

@@ -3,7 +3,7 @@ use Rattle.std.proofs.Common.{◌≡◌, inl, ℕ, zero, suc, ◌+◌, ◌≤◌
 use Rattle.aud_text.specs.declared.place.Pos.{Pos}
 use Rattle.aud_typed.specs.declared.program.Variable.{Variable}
 use Rattle.aud_typed.specs.Tree as tree
-use Rattle.aud_typed.specs.Tree.{Statement, sequence, declare, declare_array, declare_tasks, declare_object, if_then, plain_loop, while_loop, for_loop, exit, return, return_value, block, procedure_call, own_entry_call, operation_call, entry_call, delay, accept, select, Part, nothing, some, Handlers, no_handlers, handler, Body, body, Doing, without_do, with_do, Alternatives, no_alternatives, accepting, delaying, terminating, Callee, of_task, of_object, CallForm, TaskPlan, EntryPlan, Plan, Program}
+use Rattle.aud_typed.specs.Tree.{Statement, sequence, declare, declare_tasks, if_then, plain_loop, while_loop, for_loop, exit, return, return_value, block, procedure_call, operation_call, entry_call, accept, select, Part, nothing, some, Handlers, no_handlers, handler, Body, body, Doing, without_do, with_do, Alternatives, no_alternatives, accepting, delaying, terminating, Callee, of_task, of_object, CallForm, TaskPlan, EntryPlan, Plan, Program, requeue}
 use Rattle.aud_typed.specs.Why.Scoped.{Elaborated, Scope, scope_after, IsElaborated, CalleeScoped, BodyAround, entry_unit, no_entry_plan, all_formals, all_of_table, Entry, entry_of, no_task, task_of, table, CreatedScoped, AllCreatedScoped, StatementScoped, PartScoped, DoingScoped, AlternativesScoped, HandlersScoped, BodyScoped, none_yet}
 use Rattle.aud_meaning.specs.Parts as parts
 use Rattle.aud_meaning.specs.declared.state.Construct.{Construct}
@@ -15,8 +15,8 @@ use Rattle.aud_code.specs.Seen.{inside, Fewer, WaysSee, BodiesSee, WaySees, With
 use Rattle.aud_scoped.specs.Declares.{StatementDeclares, PartDeclares, HandlersDeclare, BodyDeclares, DoingDeclares, OfferedDeclare}
 use Rattle.aud_layout.specs.Layout.{one_line, Line, Around, line, in_loop, in_for, in_block, in_call, around_out, ways_count, statement_size, part_size, handlers_size, body_size, doing_size, offered_size, main_size, end_place, stubs, stubs_of, end_line, part_place, doing_place, parts_from, bodies_from, statement_code, part_code, handlers_code, body_code, doing_code, offered_code, code_of}
 use Rattle.aud_layout.specs.Assembly as assembly
-use Rattle.aud_layout.specs.Assembly.{instructions_by, offset, last_by, way_moved, within_moved, assembled_from, flat_program}
-use Rattle.aud_layout.specs.Instructions.{call_end, ending_of}
+use Rattle.aud_layout.specs.Assembly.{instructions_by, offset, last_by, way_moved, within_moved, flat_program}
+use Rattle.aud_layout.specs.Instructions.{call_end, requeue_end, ending_of}
 use Rattle.aud_layout.specs.Opened.{body_of, task_bodies, frames_before, barrier_frames}
 use Rattle.aud_layout.proofs.Standing.Places.{length-statement, length-part, length-handlers, length-body, length-doing, length-offered}
 use Rattle.aud_layout.proofs.Standing.Sizes.{count-block, last_is}
@@ -39,6 +39,10 @@ frames_there plan (e ∷ es) (suc n) h = frames_there plan es n (omega (arith, h
 call_inside : (c : Callee) (entry : ℕ) (form : CallForm) (n : ℕ) → inside (call_end c entry form) n ≡ n
 call_inside (of_task t) entry form n = refl
 call_inside (of_object v) entry form n = refl
+
+requeue_inside : (c : Callee) (r : tree.Requeue) (n : ℕ) → inside (requeue_end c r) n ≡ n
+requeue_inside (of_task t) r n = refl
+requeue_inside (of_object v) r n = refl
 
 module _ (program : Program) (seen : List ℕ) where
   -- a line with its number
@@ -117,6 +121,11 @@ module _ (program : Program) (seen : List ℕ) (base : ℕ) (entries : List Entr
   call_sees (of_object v) entry form n scope e there h around =
       (object_open v n scope e h, asked_around entry n scope e there (around_long (entry_of entries (entry_unit program.plan entry)).outer scope around.1))
 
+  requeue_sees : (c : Callee) (r : tree.Requeue) (n : ℕ) (scope : Scope) → length scope ≡ n → r.entry < length program.plan.entries → CalleeScoped c scope → BodyAround program.plan entries c r.entry scope → EndingSees (flat_program program) T B seen (requeue_end c r) n
+  requeue_sees (of_task t) r n scope e there h around = tt
+  requeue_sees (of_object v) r n scope e there h around =
+      (object_open v n scope e h, asked_around r.entry n scope e there (around_long (entry_of entries (entry_unit program.plan r.entry)).outer scope around.1))
+
   ending_sees : (s : Statement) (n : ℕ) (declares : Bool) (scope : Scope) → length scope ≡ n → Scoped s scope → StatementDeclares declares s → Creates declares s n → EndingSees (flat_program program) T B seen (ending_of s) n
   ending_sees (declare_tasks at ts) n declares scope e sc dc cr =
       let c = cr dc in
@@ -125,6 +134,7 @@ module _ (program : Program) (seen : List ℕ) (base : ℕ) (entries : List Entr
   ending_sees (procedure_call at c) n declares scope e sc dc cr = entered c.unit n scope e sc.0 (open_long (entry_of entries c.unit).outer scope sc.2)
   ending_sees (operation_call at v c) n declares scope e sc dc cr = (object_open v n scope e sc.0, entered_around c.unit n scope e sc.1.0 (around_long (entry_of entries c.unit).outer scope sc.1.2))
   ending_sees (entry_call at c p q) n declares scope e sc dc cr = call_sees c.callee c.entry c.form n scope e sc.0.0 sc.0.1 sc.0.4
+  ending_sees (requeue at r) n declares scope e sc dc cr = requeue_sees r.callee r n scope e sc.0 sc.1 sc.2
   ending_sees s n declares scope e sc dc cr = tt
 
   -- a statement's own line, with its ways and what accepts do
@@ -292,6 +302,10 @@ module _ (program : Program) (seen : List ℕ) (base : ℕ) (entries : List Entr
         (joined program seen _ _ (suc at) size long
         (offered_see offered at (suc at) next a n scope e sc.0 dc.0 (omega arith) alternatives there k i o)
         (part_sees p second next a n false scope e sc.1 dc.1 (λ t. absurd cc) else further k i))
+    statement_sees (requeue pos r) at next a n declares scope e sc dc cr st here k i =
+        let ways : List ℕ = next ∷ [] in
+        let to : WaysSee seen 0 n n (map G ways) = (k, tt) in
+        one_and (own_line (requeue pos r) ways (Some a.back) a [] at n declares scope e sc dc cr st here (subst (λ m. WaysSee seen 0 n m (map G ways)) (sym (requeue_inside r.callee r n)) to) i.back i.out) no_lines
     statement_sees s at next a n declares scope e sc dc cr st here k i =
         one_and (own_line s (next ∷ []) None a [] at n declares scope e sc dc cr st here (k, tt) tt i.out) no_lines
 

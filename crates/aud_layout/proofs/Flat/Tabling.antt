@@ -1,15 +1,15 @@
 -- The table of a program's code fits: each step's instructions lead from no operands to those of its ending, line by line.
-use Rattle.std.proofs.Common.{◌≡◌, ◌≤◌, ℕ, zero, suc, ◌+◌, List, [], ◌∷◌, ◌++◌, length, map, slice_get, true, false, Option, Some, None, refl, sym, ap, ◌∙◌, subst, arith, append_assoc}
+use Rattle.std.proofs.Common.{◌≡◌, ℕ, suc, ◌+◌, List, [], ◌∷◌, ◌++◌, length, map, slice_get, true, false, Option, Some, None, refl, sym, ap, ◌∙◌, subst, arith, append_assoc}
 use Rattle.aud_typed.specs.Tree as tree
-use Rattle.aud_typed.specs.Tree.{IntegerExpression, number, variable, element, unary, binary, count, Reference, scalar, component, TaskName, single, indexed, BooleanExpression, truth, stored, negation, relation, comparison, logical, and_then, or_else, callable, terminated, ValueExpression, whole, boolean, TextExpression, literal, image, image_truth, join, new_line, DelayExpression, milliseconds, seconds, Argument, by_value, by_copy, CallForm, plainly, conditionally, timed, Callee, of_task, of_object, Statement, sequence, declare, declare_array, declare_tasks, declare_object, activated, activate, null, assign, put, if_then, plain_loop, while_loop, for_loop, exit, return, return_value, raising, raising_again, block, procedure_call, own_entry_call, operation_call, entry_call, delay, accept, select, abort, Alternatives, no_alternatives, accepting, delaying, terminating, Program}
+use Rattle.aud_typed.specs.Tree.{IntegerExpression, number, variable, element, unary, binary, count, Reference, scalar, component, TaskName, single, indexed, BooleanExpression, truth, stored, negation, relation, comparison, logical, and_then, or_else, callable, terminated, ValueExpression, whole, boolean, TextExpression, literal, image, image_truth, join, new_line, DelayExpression, milliseconds, seconds, Argument, by_value, by_copy, CallForm, plainly, conditionally, timed, Callee, of_task, of_object, Statement, declare, declare_object, assign, put, if_then, while_loop, for_loop, exit, return_value, procedure_call, own_entry_call, operation_call, entry_call, delay, select, abort, Alternatives, no_alternatives, accepting, delaying, terminating, Program, requeue}
 use Rattle.aud_meaning.specs.Statements.{region_of}
 use Rattle.aud_meaning.specs.Evaluation.{nearest_zero}
-use Rattle.aud_code.specs.Instruction.{Instruction, Push, Load, LoadElement, OnOne, OnTwo, Count, Check, Cell, PushTruth, Truth, Negate, Relate, Compare, Combine, PassIfFalse, PassIfTrue, IsCallable, IsTerminated, Find, FindElement, LoadFound, Pass, PassCopy, AppendText, AppendImage, AppendTruth, AppendNewLine, Name, Milliseconds, Seconds, BeginObject, Component, OpensAccept, OpensDelay, OpensTerminate, Mark, PassUnlessNext, SetTime, Ending, If}
-use Rattle.aud_code.specs.Flat.{Last, Does, EndLine, FlatLine, instructs, end, instructions_from}
+use Rattle.aud_code.specs.Instruction.{Instruction, Push, Load, LoadElement, OnOne, OnTwo, Count, Check, Cell, PushTruth, Truth, Negate, Relate, Compare, Combine, PassIfFalse, PassIfTrue, IsCallable, IsTerminated, Find, FindElement, LoadFound, Pass, PassCopy, AppendText, AppendImage, AppendTruth, AppendNewLine, Name, Milliseconds, Seconds, BeginObject, Component, OpensAccept, OpensDelay, OpensTerminate, Mark, PassUnlessNext, SetTime, If}
+use Rattle.aud_code.specs.Flat.{Last, Does, EndLine, FlatLine, instructs, end}
 use Rattle.aud_code.specs.Sound.{Counts, no_counts, AndThen, InstructionFine, EndingFine, LastFine}
 use Rattle.aud_code.specs.Tabled.{LeadsTo, BeginsWithNone, Tabled, IsTabled, behind, table_from, table_of}
 use Rattle.aud_layout.specs.Layout.{What, does, continues, guards, ends, leaves, Line, code_of}
-use Rattle.aud_layout.specs.Instructions.{integer_code, loaded_code, reference_code, task_code, condition_code, value_code, text_code, delay_code, into_code, copied_code, argument_code, arguments_code, form_code, components_code, names_code, guards_code, timed_code, delays_code, called_code, call_code, call_end, entered_code, instructions_of, ending_of}
+use Rattle.aud_layout.specs.Instructions.{integer_code, loaded_code, reference_code, task_code, condition_code, value_code, text_code, delay_code, into_code, argument_code, arguments_code, form_code, components_code, names_code, guards_code, timed_code, delays_code, called_code, call_code, call_end, requeue_code, requeue_end, entered_code, instructions_of, ending_of}
 use Rattle.aud_layout.specs.Assembly.{instructions_by, last_by, end_line, assembled_from, offset, flat_program}
 
 -- the table of these lines fits, where so many operands stand before the first one
@@ -234,6 +234,12 @@ made_call c (of_object v) = reach (call_code (of_object v) c.arguments c.form) (
 none : (End : Counts → Type 0) → End no_counts → Reaches [] End
 none End h = reach [] End no_counts (nothing no_counts) h
 
+made_requeue : (r : tree.Requeue) (callee : Callee) → Reaches (requeue_code callee) (EndingFine (requeue_end callee r))
+made_requeue r (of_task t) =
+    let named = record no_counts { names = 1 } in
+    reach (requeue_code (of_task t)) (EndingFine (requeue_end (of_task t) r)) named (both (task_code t) (Name ∷ []) no_counts (integer_more no_counts) named (made_task t no_counts) (then Name [] (integer_more no_counts) named (λ go h. h) (nothing named))) tt
+made_requeue r (of_object v) = none _ tt
+
 made_statement : (a : Statement) → Reaches (instructions_of a) (EndingFine (ending_of a))
 made_statement (declare at up_to e) = reach (value_code e) _ (integer_more no_counts) (made_value e no_counts) tt
 made_statement (declare_object at n es) =
@@ -258,6 +264,7 @@ made_statement (delay at e) = reach (delay_code e) _ no_counts (made_delay e no_
 made_statement (select at offered p) =
     reach (guards_code 1 offered ++ (Mark ∷ delays_code 1 offered)) _ no_counts (both (guards_code 1 offered) (Mark ∷ delays_code 1 offered) no_counts no_counts no_counts (made_guards 1 offered no_counts) (then Mark (delays_code 1 offered) no_counts no_counts (λ go h. h) (made_delays 1 offered no_counts))) tt
 made_statement (abort at ts) = let named = made_names ts no_counts in reach (names_code ts) _ named.0 named.1 tt
+made_statement (requeue at r) = made_requeue r r.callee
 made_statement a = none _ tt
 
 module _ (f : ℕ → ℕ) where

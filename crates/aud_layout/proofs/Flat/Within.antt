@@ -1,7 +1,7 @@
 -- Each place in the layout's lines is at most the number of lines, and the place in the text at a statement's line is the statement's.
 use Rattle.std.proofs.Common.{◌≡◌, ℕ, zero, suc, ◌+◌, ◌≤◌, List, [], ◌∷◌, ◌++◌, length, map, get_or, Option, Some, None, refl, ap, arith}
 use Rattle.aud_text.specs.declared.place.Pos.{Pos}
-use Rattle.aud_typed.specs.Tree.{Statement, sequence, declare, if_then, plain_loop, while_loop, for_loop, exit, return, return_value, block, entry_call, accept, select, Part, nothing, some, Handlers, no_handlers, handler, Body, body, Doing, without_do, with_do, Alternatives, no_alternatives, accepting, delaying, terminating}
+use Rattle.aud_typed.specs.Tree.{Statement, sequence, declare, if_then, plain_loop, while_loop, for_loop, exit, return, return_value, block, entry_call, accept, select, Part, nothing, some, Handlers, no_handlers, handler, Body, body, Doing, without_do, with_do, Alternatives, no_alternatives, accepting, delaying, terminating, requeue}
 use Rattle.aud_meaning.specs.declared.state.Construct.{Construct}
 use Rattle.aud_meaning.specs.declared.state.Construct.TheVariants as construct
 use Rattle.std.proofs.Common.{slice_index_or}
@@ -177,6 +177,7 @@ module _ (T : ℕ) where
     statement_in (exit pos n c) at next a h k i = way_line (exit pos n c) next _ a k (exit_in a.exits n next i.exits k) i
     statement_in (return pos) at next a h k i = way_line (return pos) next a.back a k i.back i
     statement_in (return_value pos e) at next a h k i = way_line (return_value pos e) next a.back a k i.back i
+    statement_in (requeue pos r) at next a h k i = way_line (requeue pos r) next a.back a k i.back i
     statement_in s at next a h k i = one_and (plain_line s (next ∷ []) [] a i (k, tt) tt) no_lines
 
     part_in : (p : Part) (at next : ℕ) (a : Around) → at + part_size p (ways_count a) ≤ T → next ≤ T → AroundIn a → LinesIn (part_code p at next a)

@@ -1,6 +1,6 @@
 -- The code of a program is its layout with the places of instructions: each place of the layout moves to where its step begins.
 use Rattle.std.proofs.Common.{◌≡◌, ℕ, suc, ◌+◌, List, [], ◌∷◌, ◌++◌, map, Some, None, refl, sym, ap, ◌∙◌, append-nil}
-use Rattle.aud_typed.specs.Tree.{Statement, sequence, declare, if_then, plain_loop, while_loop, for_loop, exit, return, return_value, block, entry_call, accept, select, Part, nothing, some, Handlers, no_handlers, handler, Body, body, Doing, without_do, with_do, Alternatives, no_alternatives, accepting, delaying, terminating}
+use Rattle.aud_typed.specs.Tree.{Statement, sequence, declare, if_then, plain_loop, while_loop, for_loop, exit, return, return_value, block, entry_call, accept, select, Part, nothing, some, Handlers, no_handlers, handler, Body, body, Doing, without_do, with_do, Alternatives, no_alternatives, accepting, delaying, terminating, requeue}
 use Rattle.aud_meaning.specs.declared.state.Construct.{Construct}
 use Rattle.aud_meaning.specs.declared.state.Construct.TheVariants as construct
 use Rattle.aud_meaning.specs.Items.{no_body}
@@ -81,6 +81,7 @@ module _ (lines : List Line) where
     statement_moved (exit pos n c) at next a at' next' b h ea en eb = line_out lines (exit pos n c) next next' _ _ a b en (exit_moved F a b n next next' en eb) eb
     statement_moved (return pos) at next a at' next' b h ea en eb = line_out lines (return pos) next next' _ _ a b en (ap (λ (c : Around). c.back) eb) eb
     statement_moved (return_value pos x) at next a at' next' b h ea en eb = line_out lines (return_value pos x) next next' _ _ a b en (ap (λ (c : Around). c.back) eb) eb
+    statement_moved (requeue pos r) at next a at' next' b h ea en eb = line_out lines (requeue pos r) next next' _ _ a b en (ap (λ (c : Around). c.back) eb) eb
     statement_moved s at next a at' next' b h ea en eb = line_alone lines s next next' a b en eb
 
     part_moved : (p : Part) (at next : ℕ) (a : Around) (at' next' : ℕ) (b : Around) → HasAt lines at (part_code p at next a) → F at ≡ at' → F next ≡ next' → moved F a ≡ b → Moves F (part_code p at next a) (part_code_by flat_step p at' next' b)

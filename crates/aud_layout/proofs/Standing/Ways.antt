@@ -2,7 +2,7 @@
 use Rattle.std.proofs.Common.{◌≡◌, ℕ, zero, suc, ◌+◌, List, [], ◌∷◌, ◌++◌, length, inl, refl, sym, ap, ◌∙◌, subst, arith, slice_get, unwrap_or, map, Option, Some, None}
 use Rattle.std.proofs.lemmas.Option.{unwrap_or-slice_get}
 use Rattle.aud_text.specs.declared.place.Pos.{Pos}
-use Rattle.aud_typed.specs.Tree.{Statement, sequence, plain_loop, exit, return, return_value, no_handlers}
+use Rattle.aud_typed.specs.Tree.{Statement, sequence, plain_loop, exit, return, return_value, no_handlers, requeue}
 use Rattle.aud_meaning.specs.declared.state.Construct.{Construct}
 use Rattle.aud_meaning.specs.declared.state.Construct.TheVariants as construct
 use Rattle.aud_meaning.specs.Configuration.{Item, Do, InLoop, InFor, Begin, Ends, Leaving}
@@ -125,6 +125,7 @@ module _ (code : Code) (returns : List ℕ) where
       subst (λ l. FoundAt (exits_to (out_of_loop n rest) rest) l.exit) (sym (line_is code place _ _ has)) h'
   out_do (return pos) around place next rest is has st = subst (λ l. FoundAt (Some (out_of_call rest)) l.exit) (sym (line_is code place _ _ has)) (call_in rest around next st)
   out_do (return_value pos e) around place next rest is has st = subst (λ l. FoundAt (Some (out_of_call rest)) l.exit) (sym (line_is code place _ _ has)) (call_in rest around next st)
+  out_do (requeue pos r) around place next rest is has st = subst (λ l. FoundAt (Some (out_of_call rest)) l.exit) (sym (line_is code place _ _ has)) (call_in rest around next st)
   out_do s around place next rest is has st = subst (λ l. FoundAt None l.exit) (sym (line_is code place _ _ has)) tt
 
   pub out_found : (items : List Item) (around : Around) (place : ℕ) → Stands code around place returns items → IsSettled items → FoundAt (out_from items) (line_at code place).exit

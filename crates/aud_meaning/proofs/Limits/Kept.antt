@@ -20,6 +20,8 @@ use Rattle.aud_meaning.specs.declared.state.Pending.{Pending}
 use Rattle.aud_meaning.specs.declared.state.Resumed.{Resumed}
 use Rattle.aud_meaning.specs.declared.state.OpenAccept.{OpenAccept}
 use Rattle.aud_meaning.specs.declared.state.Serving.{Serving}
+use Rattle.aud_meaning.specs.declared.state.Again.{Again}
+use Rattle.aud_meaning.specs.declared.state.Restart.{Restart}
 use Rattle.aud_meaning.specs.declared.state.Action.{Action}
 use Rattle.aud_meaning.specs.Configuration.{Frame, Target, Returning, Purpose, for_body, for_block, for_loop, for_procedure, for_operation, for_entry, for_accept, Opened, Waits, Own, Call, Object, Shared, TaskAt, All, Acting}
 use Rattle.aud_meaning.specs.Evaluation.{Sight, Passed}
@@ -339,17 +341,10 @@ module _ {C : Type 0} (limits : Limits) (start : All C) where
 
     -- Rendezvous.
 
-    at_accept_end_within : (p : Option Pending) (id : ℕ) (o : Opened) (n : ℕ) (c : All C) → Within c → Within (effect.at_accept_end go plan barrier p id o n c)
-    at_accept_end_within None id o n c w =
-        end_call_within (succeeds (effect.formals_now go plan barrier o.frame (length (call_of id c).values) c)) id (on_own n closed c) (closed_within n c w)
-    at_accept_end_within (Some p) id o n c w =
-        let f : Own → Own = (λ own. pends p.exception o.at (closed own)) in
-        end_call_within (fails p.exception) id (on_own n f c) (on_own_within n f c (λ own h. closed_fits own h) w)
-
     rendezvous_by_within : (region : Option ℕ) (a : OpenAccept) (id n : ℕ) (c : All C) → Within c → Within (effect.rendezvous_by go plan barrier region a id n c)
     rendezvous_by_within None a id n c w =
         let f : TaskAt C → TaskAt C = (λ t. record { control = go.takes a.alternative t.control; own = runs t.own }) in
-        end_call_within (succeeds (call_of id c).values) id (on_task n f c) (on_task_within n f c (λ t h. runs_fit t.own h) w)
+        end_call_within (succeeds ((call_of id c).values ++ (call_of id c).unseen)) id (on_task n f c) (on_task_within n f c (λ t h. runs_fit t.own h) w)
     rendezvous_by_within (Some region) a id n c w =
         let f : TaskAt C → TaskAt C = (λ t. record { control = go.accepts a.alternative t.control; own = runs t.own }) in
         alone_within (λ t. effects.opens (for_accept id) region a.at t.own.display (call_of id c).values (length (call_of id c).values) t) n (on_task n f c)
@@ -358,6 +353,31 @@ module _ {C : Type 0} (limits : Limits) (start : All C) where
     rendezvous_within : (a : OpenAccept) (id n : ℕ) (c : All C) → Within c → Within (effect.rendezvous go plan barrier a id n c)
     rendezvous_within a id n c w =
         rendezvous_by_within a.region a id n (on_call id (λ call. record call { state = Selected }) c) (on_call_within id (λ call. record call { state = Selected }) c w)
+
+    -- Requeue.
+
+    made_again_within : (alternative : Option ℕ) (ones : List OpenAccept) (id task : ℕ) (c : All C) → Within c → Within (effect.made_again go plan barrier alternative ones id task c)
+    made_again_within alternative [] id task c w = arrives_within id c w
+    made_again_within alternative (a ∷ ones) id task c w = rendezvous_within (alternative_of alternative a (a ∷ ones)) id task c w
+
+    requeued_on_within : (alternative : Option ℕ) (o : Owner) (at : Pos) (id n : ℕ) (c : All C) → Within c → Within (effect.requeued_on go plan barrier alternative o at id n c)
+    requeued_on_within alternative (owner.Task task) at id n c w =
+        either (effect.is_lost go plan barrier (call_of id c) c) _ _ (cancels_within id c w)
+        (either (is_callable (own_of task c)) _ _ (made_again_within alternative (open_alternatives (own_of task c) (call_of id c).entry) id task (on_call id (effect.called_of go plan barrier (owner.Task task)) c) (on_call_within id (effect.called_of go plan barrier (owner.Task task)) c w)) (end_call_within (fails (Predefined Tasking)) id c w))
+    requeued_on_within alternative (owner.Object object) at id n c w = on_own_within n (λ own. record own { restart = Some (record { call = id; object = object; at = at }) }) c (λ own h. h) w
+
+    accept_ended_within : (alternative : Option ℕ) (r : Option Again) (values : List ℤ) (id n : ℕ) (c : All C) → Within c → Within (effect.accept_ended go plan barrier alternative r values id n c)
+    accept_ended_within alternative None values id n c w = end_call_within (succeeds values) id c w
+    accept_ended_within alternative (Some r) values id n c w =
+        requeued_on_within alternative r.owner r.at id n (on_call id (effect.retargeted go plan barrier r values) c) (on_call_within id (effect.retargeted go plan barrier r values) c w)
+
+    at_accept_end_within : (alternative : Option ℕ) (p : Option Pending) (id : ℕ) (o : Opened) (n : ℕ) (c : All C) → Within c → Within (effect.at_accept_end go plan barrier alternative p id o n c)
+    at_accept_end_within alternative None id o n c w =
+        let f : Own → Own = (λ own. record (closed own) { again = None }) in
+        accept_ended_within alternative (own_of n c).again (effect.present_values go plan barrier id o.frame c) id n (on_own n f c) (on_own_within n f c (λ own h. closed_fits own h) w)
+    at_accept_end_within alternative (Some p) id o n c w =
+        let f : Own → Own = (λ own. pends p.exception o.at (record (closed own) { again = None })) in
+        end_call_within (fails p.exception) id (on_own n f c) (on_own_within n f c (λ own h. closed_fits own h) w)
 
     accepts_oldest_within : (a : OpenAccept) (ws : List Waiting) (n : ℕ) (c : All C) → Within c → Within (effect.accepts_oldest go plan barrier a ws n c)
     accepts_oldest_within a [] n c w = blocked_within Accepting refl a.at (record { accepts = a ∷ []; delays = []; terminate = false }) n c w
@@ -447,6 +467,22 @@ module _ {C : Type 0} (limits : Limits) (start : All C) where
         (begin_action_within n object false d (standing_within call c w)))
         (raised_at_within Storage call.at n c w))
 
+    pub starts_again_within : (r : Restart) (n : ℕ) (c : All C) → is_created (own_of n c).status ≡ false → Within c → Within (effect.starts_again go plan barrier r n c)
+    starts_again_within r n c here w =
+        let call : Call = call_of r.call c in
+        let d : All C = on_own n (λ own. record own { restart = None }) c in
+        let v : Within d = on_own_within n (λ own. record own { restart = None }) c (λ own h. h) w in
+        let e : All C = on_call r.call (effect.called_of go plan barrier (owner.Object r.object)) d in
+        either (effect.is_lost go plan barrier call c) _ _ (cancels_within r.call d v)
+        (barrier_met_within (effect.barrier_of plan barrier r.object call.entry c) r.at r.object r.call n (begin_action n r.object false e)
+        (still_begun n (λ own. record own { restart = None }) c.tasks (λ own. refl) here)
+        (begin_action_within n r.object false e (on_call_within r.call (effect.called_of go plan barrier (owner.Object r.object)) d v)))
+      where
+        still_begun : (m : ℕ) (f : Own → Own) (ts : List (TaskAt C)) → ((own : Own) → (f own).status ≡ own.status) → is_created (nth m ts).status ≡ false → is_created (nth m (changed m (λ t. record t { own = f t.own }) ts)).status ≡ false
+        still_begun m f [] same h = refl
+        still_begun zero f (t ∷ ts) same h = ap is_created (same t.own) ∙ h
+        still_begun (suc m) f (t ∷ ts) same h = still_begun m f ts same h
+
     -- where a frame more is allowed
     pub roomy : (b : Bool) (x y : All C) → (b ≡ true → Within x) → Within y → Within (if b then x else y)
     roomy true x y h i = h refl
@@ -484,12 +520,22 @@ module _ {C : Type 0} (limits : Limits) (start : All C) where
         let v : Within d = returned_or_within p r o.frame o.at n (on_own n closed c) (closed_within n c w) in
         either r.is_function _ _ (end_action_within n object d v) (serviced_within object o.at n d v)
 
+    entry_ended_within : (p : Option Pending) (r : Option Again) (values : List ℤ) (object id : ℕ) (c : All C) → Within c → Within (effect.entry_ended go plan barrier p r values object id c)
+    entry_ended_within (Some p) r values object id c w = end_call_within (fails p.exception) id c w
+    entry_ended_within None None values object id c w = end_call_within (succeeds values) id c w
+    entry_ended_within None (Some r) values object id c w =
+        let d : All C = on_call id (effect.retargeted go plan barrier r values) c in
+        let v : Within d = on_call_within id (effect.retargeted go plan barrier r values) c w in
+        let f : Call → Call = effect.called_of go plan barrier (owner.Object object) in
+        either (effect.is_lost go plan barrier (call_of id d) d) _ _ (cancels_within id d v) (arrives_within id (on_call id f d) (on_call_within id f d v))
+
     at_entry_end_within : (p : Option Pending) (object id : ℕ) (back : Resumed) (o : Opened) (n : ℕ) (c : All C) → (AtStart → is_created back.status ≡ false) → Within c → Within (effect.at_entry_end go plan barrier p object id back o n c)
     at_entry_end_within p object id back o n c before w =
-        let f : Own → Own = (λ own. record (closed own) { status = back.status; pending = back.pending }) in
-        let outcome : Outcome = effect.entry_outcome go plan barrier p (effect.formals_now go plan barrier o.frame (length (call_of id c).values) c) in
-        serviced_within object o.at n (effect.end_call go plan barrier outcome id (on_own n f c))
-        (end_call_within outcome id (on_own n f c) (on_task_given n (λ t. record t { own = f t.own }) c (λ i t h. (omega (arith, ap one_if (before i), (closed_fits t.own h).0), (closed_fits t.own h).1)) w))
+        let f : Own → Own = (λ own. record (closed own) { status = back.status; pending = back.pending; again = None }) in
+        let r : Option Again = (own_of n c).again in
+        let values : List ℤ = effect.present_values go plan barrier id o.frame c in
+        serviced_within object o.at n (effect.entry_ended go plan barrier p r values object id (on_own n f c))
+        (entry_ended_within p r values object id (on_own n f c) (on_task_given n (λ t. record t { own = f t.own }) c (λ i t h. (omega (arith, ap one_if (before i), (closed_fits t.own h).0), (closed_fits t.own h).1)) w))
 
     serves_oldest_within : (ws : List Waiting) (s : Serving) (n : ℕ) (c : All C) → is_created (own_of n c).status ≡ false → Within c → Within (effect.serves_oldest go plan barrier ws s n c)
     serves_oldest_within [] s n c here w = w
@@ -552,23 +598,23 @@ module _ {C : Type 0} (limits : Limits) (start : All C) where
 
     -- Leaving.
 
-    at_end_by_within : (purpose : Purpose) (p : Option Pending) (o : Opened) (n : ℕ) (c : All C) → (AtStart → GoesBack purpose) → Within c → Within (effect.at_end_by go plan barrier purpose p o n c)
-    at_end_by_within for_body p o n c back w = completes_within (exception_of p) n c w
-    at_end_by_within for_block p o n c back w = at_block_end_within p o n (on_own n out_of_loops c) (on_own_within n out_of_loops c (λ own h. out_of_loops_fits own h) w)
-    at_end_by_within for_loop p o n c back w = w
-    at_end_by_within (for_procedure r) p o n c back w = at_procedure_end_within p r o n (on_own n out_of_loops c) (on_own_within n out_of_loops c (λ own h. out_of_loops_fits own h) w)
-    at_end_by_within (for_operation object r) p o n c back w = at_operation_end_within p object r o n (on_own n out_of_loops c) (on_own_within n out_of_loops c (λ own h. out_of_loops_fits own h) w)
-    at_end_by_within (for_entry object id served resumed) p o n c back w = at_entry_end_within p object id resumed o n (on_own n out_of_loops c) back (on_own_within n out_of_loops c (λ own h. out_of_loops_fits own h) w)
-    at_end_by_within (for_accept id) p o n c back w = at_accept_end_within p id o n (on_own n out_of_loops c) (on_own_within n out_of_loops c (λ own h. out_of_loops_fits own h) w)
+    at_end_by_within : (alternative : Option ℕ) (purpose : Purpose) (p : Option Pending) (o : Opened) (n : ℕ) (c : All C) → (AtStart → GoesBack purpose) → Within c → Within (effect.at_end_by go plan barrier alternative purpose p o n c)
+    at_end_by_within alternative for_body p o n c back w = completes_within (exception_of p) n c w
+    at_end_by_within alternative for_block p o n c back w = at_block_end_within p o n (on_own n out_of_loops c) (on_own_within n out_of_loops c (λ own h. out_of_loops_fits own h) w)
+    at_end_by_within alternative for_loop p o n c back w = w
+    at_end_by_within alternative (for_procedure r) p o n c back w = at_procedure_end_within p r o n (on_own n out_of_loops c) (on_own_within n out_of_loops c (λ own h. out_of_loops_fits own h) w)
+    at_end_by_within alternative (for_operation object r) p o n c back w = at_operation_end_within p object r o n (on_own n out_of_loops c) (on_own_within n out_of_loops c (λ own h. out_of_loops_fits own h) w)
+    at_end_by_within alternative (for_entry object id served resumed) p o n c back w = at_entry_end_within p object id resumed o n (on_own n out_of_loops c) back (on_own_within n out_of_loops c (λ own h. out_of_loops_fits own h) w)
+    at_end_by_within alternative (for_accept id) p o n c back w = at_accept_end_within alternative p id o n (on_own n out_of_loops c) (on_own_within n out_of_loops c (λ own h. out_of_loops_fits own h) w)
 
-    at_end_of_within : (os : List Opened) (p : Option Pending) (n : ℕ) (c : All C) → (AtStart → AllGoBack os) → Within c → Within (effect.at_end_of go plan barrier os p n c)
-    at_end_of_within [] p n c back w = w
-    at_end_of_within (o ∷ os) p n c back w = at_end_by_within o.purpose p o n c (λ i. (back i).0) w
+    at_end_of_within : (alternative : Option ℕ) (os : List Opened) (p : Option Pending) (n : ℕ) (c : All C) → (AtStart → AllGoBack os) → Within c → Within (effect.at_end_of go plan barrier alternative os p n c)
+    at_end_of_within alternative [] p n c back w = w
+    at_end_of_within alternative (o ∷ os) p n c back w = at_end_by_within alternative o.purpose p o n c (λ i. (back i).0) w
 
-    at_end_within : (p : Option Pending) (n : ℕ) (c : All C) → Within c → Within (effect.at_end go plan barrier p n c)
-    at_end_within p n c w = at_end_of_within (out_of_loops (own_of n c)).opened p n c (λ i. (out_of_loops_fits (own_of n c) (nth_fits n c.tasks (w.within i).frames)).1) w
+    at_end_within : (alternative : Option ℕ) (p : Option Pending) (n : ℕ) (c : All C) → Within c → Within (effect.at_end go plan barrier alternative p n c)
+    at_end_within alternative p n c w = at_end_of_within alternative (out_of_loops (own_of n c)).opened p n c (λ i. (out_of_loops_fits (own_of n c) (nth_fits n c.tasks (w.within i).frames)).1) w
 
-    pub leaves_within : (p : Option Pending) (to : C → C) (n : ℕ) (c : All C) → Within c → Within (step.leaves go plan barrier p to n c)
-    leaves_within p to n c w =
+    pub leaves_within : (alternative : Option ℕ) (p : Option Pending) (to : C → C) (n : ℕ) (c : All C) → Within c → Within (step.leaves go plan barrier alternative p to n c)
+    leaves_within alternative p to n c w =
         let f : TaskAt C → TaskAt C = (λ t. record t { control = to t.control; own = record t.own { pending = None } }) in
-        at_end_within p n (on_task n f c) (on_task_within n f c (λ t h. h) w)
+        at_end_within alternative p n (on_task n f c) (on_task_within n f c (λ t h. h) w)

@@ -18,7 +18,7 @@ use Rattle.aud_meaning.specs.declared.state.Owner.TheVariants as owner
 use Rattle.aud_meaning.specs.declared.state.Move.{Move}
 use Rattle.aud_meaning.specs.Configuration.{Own, Object, Shared, TaskAt, All, Acting}
 use Rattle.aud_meaning.specs.Evaluation.{Sight, nearest_zero}
-use Rattle.aud_meaning.specs.Control.{Asked, raises_here, raises_in_part, declares, declares_array, declares_tasks, declares_object, ends_activation, activates, goes_on, assigns, puts, enters_loop, next_of_loop, goes_out, raises, raises_again, enters_block, calls_procedure, calls_operation, calls_own_entry, calls_entry, delays, accepts, selects, aborts, ends, handles, is_left_by, Called, Seen, Controls}
+use Rattle.aud_meaning.specs.Control.{Asked, raises_here, raises_in_part, declares, declares_array, declares_tasks, declares_object, ends_activation, activates, goes_on, assigns, puts, enters_loop, next_of_loop, goes_out, raises, raises_again, enters_block, calls_procedure, calls_operation, calls_own_entry, calls_entry, delays, accepts, selects, aborts, requeues, ends, handles, is_left_by, Called, Seen, Controls}
 use Rattle.aud_meaning.specs.Effects.{changed_first, innermost, out_of_loops, out_of, live_frames, has_room}
 use Rattle.aud_meaning.specs.Effects as effects
 use Rattle.aud_meaning.specs.Orders.{Orders, carried_out}
@@ -26,7 +26,7 @@ use Rattle.aud_meaning.specs.Parts.{alone, is_created, own_of, owns}
 use Rattle.aud_meaning.specs.Tasks as effect
 use Rattle.aud_meaning.specs.Step as step
 use Rattle.aud_meaning.specs.Step.{call_record, done}
-use Rattle.aud_meaning.specs.Run.{Turn, resting, closing, completing, withdrawing, serving, expiring, cancelling, acting, alternative_or_none, turn_by, turn_at, turn_taken, seen_from, seen, scene_of, step_of, step_with, take_by, take_one, run_by, run_with, moves_at}
+use Rattle.aud_meaning.specs.Run.{Turn, resting, closing, completing, withdrawing, serving, restarting, expiring, cancelling, acting, alternative_or_none, turn_by, turn_at, turn_taken, seen_from, seen, scene_of, step_of, step_with, take_by, take_one, run_by, run_with, moves_at}
 use Rattle.aud_meaning.specs.Why.Alone.{IsAlone, acts}
 use Rattle.aud_meaning.specs.Why.Carried.{carried_by}
 use Rattle.aud_meaning.specs.Why.Limits.{one_if, reserved, Fits, IsWithin, LimitsLaw}
@@ -34,7 +34,7 @@ use Rattle.aud_meaning.proofs.Alone.{alone_law}
 use Rattle.aud_meaning.proofs.Carrying.{carried_law}
 use Rattle.aud_meaning.proofs.Limits.Cells.{IsKept, KeepsCells, acts_kept, all_kept, declared, opened}
 use Rattle.aud_meaning.proofs.Limits.Frames.{FitsBeside, beside, closed_fits, either_beside, first_fits, found_all, nth, nth_fits, numbers_rise, numbers_unbegun, out_fits, out_of_loops_fits, value_all_back, value_live}
-use Rattle.aud_meaning.proofs.Limits.Kept.{aborts_within, accepts_call_within, activates_within, activation_ended_within, alone_within, call_expires_within, calls_object_within, calls_operation_within, calls_task_within, closes_within, completes_within, declared_within, declares_tasks_within, delay_expires_within, delays_for_within, leaves_within, on_control_within, on_own_within, raised_at_within, raises_in_part_within, roomy, selects_within, serves_within, withdraws_within}
+use Rattle.aud_meaning.proofs.Limits.Kept.{aborts_within, accepts_call_within, activates_within, activation_ended_within, alone_within, call_expires_within, calls_object_within, calls_operation_within, calls_task_within, closes_within, completes_within, declared_within, declares_tasks_within, delay_expires_within, delays_for_within, leaves_within, on_control_within, on_own_within, raised_at_within, raises_in_part_within, roomy, selects_within, serves_within, starts_again_within, withdraws_within}
 
 module _ {C : Type 0} (limits : Limits) (go : Orders C) (plan : Plan) (barrier : ℕ → Sight → Result Bool Raise) where
   abbrev Within : All C → All C → Type 0
@@ -91,6 +91,7 @@ module _ {C : Type 0} (limits : Limits) (go : Orders C) (plan : Plan) (barrier :
       let e : reserved t.own.status ≡ 0 = ap one_if here in
       if_room_fits at t _ h (λ room. ((omega (arith, e, room), (tt, h.0.1)), h.1, h.2))
   acts_fits (calls_own_entry at) t here h = (h.0, h.1, h.2)
+  acts_fits (requeues loops r) t here h = (out_fits loops (step.requeued go plan barrier r t).own h.0, h.1, h.2)
   acts_fits (handles p) t here h = (handled_fits p.exception (out_of_loops t.own) (out_of_loops_fits t.own h.0), h.1, h.2)
   acts_fits a t here h = h
 
@@ -173,16 +174,18 @@ module _ {C : Type 0} (limits : Limits) (go : Orders C) (plan : Plan) (barrier :
   done_within alternative (accepts a) n c here w = accepts_call_within limits c go plan barrier a n c w
   done_within alternative (selects has_else waits at) n c here w = selects_within limits c go plan barrier alternative has_else waits at n c w
   done_within alternative (aborts ns at) n c here w = aborts_within limits c go plan barrier ns at n c w
+  done_within alternative (requeues loops r) n c here w = alone_done alternative (requeues loops r) tt n c here w
   done_within alternative (ends loops) n c here w =
-      on_own_within limits c n (out_of loops) (step.leaves go plan barrier None go.behind n c) (λ own h. out_fits loops own h) (leaves_within limits c go plan barrier None go.behind n c w)
+      on_own_within limits c n (out_of loops) (step.leaves go plan barrier alternative None go.behind n c) (λ own h. out_fits loops own h) (leaves_within limits c go plan barrier alternative None go.behind n c w)
   done_within alternative (handles p) n c here w = alone_done alternative (handles p) tt n c here w
-  done_within alternative (is_left_by p) n c here w = leaves_within limits c go plan barrier (Some p) (go.left p.exception) n c w
+  done_within alternative (is_left_by p) n c here w = leaves_within limits c go plan barrier alternative (Some p) (go.left p.exception) n c w
 
   taken_within : (u : Turn) (a : Asked) (m : Move) (c : All C) → is_created (own_of m.task c).status ≡ false → Within c c → Within c (turn_taken go plan barrier limits u a m c)
   taken_within resting a m c here w = w
   taken_within closing a m c here w = closes_within limits c go plan barrier m.task c w
   taken_within completing a m c here w = completes_within limits c go plan barrier None m.task c w
   taken_within (withdrawing object) a m c here w = withdraws_within limits c go plan barrier object m.task c w
+  taken_within (restarting r) a m c here w = starts_again_within limits c go plan barrier r m.task c here w
   taken_within (serving s) a m c here w = serves_within limits c go plan barrier m.alternative s m.task c here w
   taken_within (expiring ds) a m c here w = delay_expires_within limits c go plan barrier (alternative_or_none m.alternative) m.task c w
   taken_within (cancelling id) a m c here w = call_expires_within limits c go plan barrier m.task c w

@@ -18,6 +18,8 @@ use Rattle.aud_meaning.specs.declared.state.Pending.{Pending}
 use Rattle.aud_meaning.specs.declared.state.Resumed.{Resumed}
 use Rattle.aud_meaning.specs.declared.state.OpenAccept.{OpenAccept}
 use Rattle.aud_meaning.specs.declared.state.Serving.{Serving}
+use Rattle.aud_meaning.specs.declared.state.Again.{Again}
+use Rattle.aud_meaning.specs.declared.state.Restart.{Restart}
 use Rattle.aud_meaning.specs.declared.state.Action.{Action}
 use Rattle.aud_meaning.specs.Configuration.{Frame, Target, Returning, Purpose, for_body, for_block, for_loop, for_procedure, for_operation, for_entry, for_accept, Opened, Own, Call, Object, TaskAt, All, Acting}
 use Rattle.aud_meaning.specs.Evaluation.{Sight, Passed}
@@ -29,7 +31,7 @@ use Rattle.aud_meaning.specs.Tasks as effect
 use Rattle.aud_meaning.specs.Step as step
 use Rattle.aud_meaning.specs.Why.Open.{IsSettled, IsStill, IsUnmet, NoneMissed, accepts_for}
 use Rattle.aud_meaning.proofs.Limits.Frames.{nth}
-use Rattle.aud_meaning.proofs.Open.Tasks.{Core, Lets, alike, call_at, changed_calls, changed_tasks, closed_core, either_lets, Got, got, last_call, loops_core, more_tasks, one_call_more, rests, stops}
+use Rattle.aud_meaning.proofs.Open.Tasks.{Core, Lets, alike, call_at, changed_call, changed_calls, changed_tasks, closed_core, either_lets, Got, got, last_call, loops_core, more_tasks, one_call_more, rests, stops}
 
 -- no call is met with a task that waits for it, and the tasks of these numbers are still
 pub record Holds (C : Type 0) (S : ℕ → Type 0) (c : All C) : Type 0 where
@@ -314,17 +316,10 @@ module _ {C : Type 0} (S : ℕ → Type 0) where
 
     -- Rendezvous.
 
-    at_accept_end_keeps : (p : Option Pending) (id : ℕ) (o : Opened) (n : ℕ) (c : All C) → Keeps c → Keeps (effect.at_accept_end go plan barrier p id o n c)
-    at_accept_end_keeps None id o n c w =
-        end_call_keeps (succeeds (effect.formals_now go plan barrier o.frame (length (call_of id c).values) c)) id (on_own n closed c) (closed_keeps n c w)
-    at_accept_end_keeps (Some p) id o n c w =
-        let f : Own → Own = (λ own. pends p.exception o.at (closed own)) in
-        end_call_keeps (fails p.exception) id (on_own n f c) (on_own_keeps n f c (λ own. alike (closed_core own)) w)
-
     rendezvous_by_keeps : (region : Option ℕ) (a : OpenAccept) (id n : ℕ) (c : All C) → Keeps c → Keeps (effect.rendezvous_by go plan barrier region a id n c)
     rendezvous_by_keeps None a id n c w =
         let f : TaskAt C → TaskAt C = (λ t. record { control = go.takes a.alternative t.control; own = runs t.own }) in
-        end_call_keeps (succeeds (call_of id c).values) id (on_task n f c) (on_task_keeps n f c (λ t. stops refl) w)
+        end_call_keeps (succeeds ((call_of id c).values ++ (call_of id c).unseen)) id (on_task n f c) (on_task_keeps n f c (λ t. stops refl) w)
     rendezvous_by_keeps (Some region) a id n c w =
         let f : TaskAt C → TaskAt C = (λ t. record { control = go.accepts a.alternative t.control; own = runs t.own }) in
         alone_keeps (λ t. effects.opens (for_accept id) region a.at t.own.display (call_of id c).values (length (call_of id c).values) t) n (on_task n f c)
@@ -369,6 +364,40 @@ module _ {C : Type 0} (S : ℕ → Type 0) where
         (chosen (is_callable (own_of task c)) _ _
         (λ callable. calls_open_keeps alternative (open_alternatives (own_of task c) call.entry) call task c is out (λ none. closed_entry (own_of task c) call.entry (w.settled task) callable none) w)
         (raised_at_keeps Tasking call.at call.caller c w))
+
+    -- Requeue.
+
+    made_again_keeps : (alternative : Option ℕ) (ones : List OpenAccept) (id task : ℕ) (c : All C) → (ones ≡ [] → accepts_for (call_of id c).entry (own_of task c).waits.accepts ≡ []) → Keeps c → Keeps (effect.made_again go plan barrier alternative ones id task (on_call id (effect.called_of go plan barrier (owner.Task task)) c))
+    made_again_keeps alternative [] id task c none w =
+        arrives_keeps id (on_call id (effect.called_of go plan barrier (owner.Task task)) c)
+        (λ n. changed_call (λ x. is_task n x.owner ≡ true → accepts_for x.entry (own_of n c).waits.accepts ≡ []) id (effect.called_of go plan barrier (owner.Task task)) c.shared.calls (λ its. absurd (false≢true its))
+        (λ call e its.
+        subst (λ m. accepts_for call.entry (own_of m c).waits.accepts ≡ []) (sym (eqb-true n task its))
+        (subst (λ (x : Call). accepts_for x.entry (own_of task c).waits.accepts ≡ []) (sym e) (none refl))))
+        (on_call_keeps id (effect.called_of go plan barrier (owner.Task task)) c (λ call. refl) w)
+    made_again_keeps alternative (a ∷ ones) id task c none w =
+        rendezvous_keeps (alternative_of alternative a (a ∷ ones)) id task (on_call id (effect.called_of go plan barrier (owner.Task task)) c) (on_call_keeps id (effect.called_of go plan barrier (owner.Task task)) c (λ call. refl) w)
+
+    requeued_on_keeps : (alternative : Option ℕ) (o : Owner) (at : Pos) (id n : ℕ) (c : All C) → Keeps c → Keeps (effect.requeued_on go plan barrier alternative o at id n c)
+    requeued_on_keeps alternative (owner.Task task) at id n c w =
+        either (effect.is_lost go plan barrier (call_of id c) c) _ _ (cancels_keeps id c w)
+        (chosen (is_callable (own_of task c)) _ _
+        (λ callable. made_again_keeps alternative (open_alternatives (own_of task c) (call_of id c).entry) id task c (λ none. closed_entry (own_of task c) (call_of id c).entry (w.settled task) callable none) w)
+        (end_call_keeps (fails (Predefined Tasking)) id c w))
+    requeued_on_keeps alternative (owner.Object object) at id n c w = on_own_keeps n (λ own. record own { restart = Some (record { call = id; object = object; at = at }) }) c (λ own. alike refl) w
+
+    accept_ended_keeps : (alternative : Option ℕ) (r : Option Again) (values : List ℤ) (id n : ℕ) (c : All C) → Keeps c → Keeps (effect.accept_ended go plan barrier alternative r values id n c)
+    accept_ended_keeps alternative None values id n c w = end_call_keeps (succeeds values) id c w
+    accept_ended_keeps alternative (Some r) values id n c w =
+        requeued_on_keeps alternative r.owner r.at id n (on_call id (effect.retargeted go plan barrier r values) c) (on_call_keeps id (effect.retargeted go plan barrier r values) c (λ call. refl) w)
+
+    at_accept_end_keeps : (alternative : Option ℕ) (p : Option Pending) (id : ℕ) (o : Opened) (n : ℕ) (c : All C) → Keeps c → Keeps (effect.at_accept_end go plan barrier alternative p id o n c)
+    at_accept_end_keeps alternative None id o n c w =
+        let f : Own → Own = (λ own. record (closed own) { again = None }) in
+        accept_ended_keeps alternative (own_of n c).again (effect.present_values go plan barrier id o.frame c) id n (on_own n f c) (on_own_keeps n f c (λ own. alike (closed_core own)) w)
+    at_accept_end_keeps alternative (Some p) id o n c w =
+        let f : Own → Own = (λ own. pends p.exception o.at (record (closed own) { again = None })) in
+        end_call_keeps (fails p.exception) id (on_own n f c) (on_own_keeps n f c (λ own. alike (closed_core own)) w)
 
     pub delays_for_keeps : (ms : ℕ) (at : Pos) (n : ℕ) (c : All C) → Keeps c → Keeps (effect.delays_for go plan barrier ms at n c)
     delays_for_keeps ms at n c w =
@@ -429,6 +458,21 @@ module _ {C : Type 0} (S : ℕ → Type 0) where
         (begin_action_keeps n object false d (standing_keeps call c out w)))
         (raised_at_keeps Storage call.at n c w))
 
+    -- a call that becomes one of an object is none of a task
+    now_of_object : (object id : ℕ) (c : All C) (m : ℕ) → is_task m (call_of id (on_call id (effect.called_of go plan barrier (owner.Object object)) c)).owner ≡ false
+    now_of_object object id c m = changed_call (λ x. is_task m x.owner ≡ false) id (effect.called_of go plan barrier (owner.Object object)) c.shared.calls refl (λ call e. refl)
+
+    pub starts_again_keeps : (r : Restart) (n : ℕ) (c : All C) → S n → Keeps c → Keeps (effect.starts_again go plan barrier r n c)
+    starts_again_keeps r n c s w =
+        let call : Call = call_of r.call c in
+        let d : All C = on_own n (λ own. record own { restart = None }) c in
+        let v : Keeps d = on_own_keeps n (λ own. record own { restart = None }) c (λ own. alike refl) w in
+        let f : Call → Call = effect.called_of go plan barrier (owner.Object r.object) in
+        either (effect.is_lost go plan barrier call c) _ _ (cancels_keeps r.call d v)
+        (barrier_met_keeps (effect.barrier_of plan barrier r.object call.entry c) r.at r.object r.call n (begin_action n r.object false (on_call r.call f d))
+        (now_of_object r.object r.call d) s
+        (begin_action_keeps n r.object false (on_call r.call f d) (on_call_keeps r.call f d (λ a. refl) v)))
+
     pub calls_operation_keeps : (at : Pos) (object unit : ℕ) (p : Passed) (into : Option Target) (n : ℕ) (c : All C) → Keeps c → Keeps (effect.calls_operation go plan barrier at object unit p into n c)
     calls_operation_keeps at object unit p into n c w =
         let u = unit_of plan unit in
@@ -447,12 +491,23 @@ module _ {C : Type 0} (S : ℕ → Type 0) where
         let v : Keeps d = returned_or_keeps p r o.frame o.at n (on_own n closed c) (closed_keeps n c w) in
         either r.is_function _ _ (end_action_keeps n object d v) (serviced_keeps object o.at n d s v)
 
+    entry_ended_keeps : (p : Option Pending) (r : Option Again) (values : List ℤ) (object id : ℕ) (c : All C) → Keeps c → Keeps (effect.entry_ended go plan barrier p r values object id c)
+    entry_ended_keeps (Some p) r values object id c w = end_call_keeps (fails p.exception) id c w
+    entry_ended_keeps None None values object id c w = end_call_keeps (succeeds values) id c w
+    entry_ended_keeps None (Some r) values object id c w =
+        let d : All C = on_call id (effect.retargeted go plan barrier r values) c in
+        let v : Keeps d = on_call_keeps id (effect.retargeted go plan barrier r values) c (λ a. refl) w in
+        let f : Call → Call = effect.called_of go plan barrier (owner.Object object) in
+        either (effect.is_lost go plan barrier (call_of id d) d) _ _ (cancels_keeps id d v)
+        (arrives_keeps id (on_call id f d) (λ n its. absurd (false≢true (sym (now_of_object object id d n) ∙ its))) (on_call_keeps id f d (λ a. refl) v))
+
     at_entry_end_keeps : (p : Option Pending) (object id : ℕ) (back : Resumed) (o : Opened) (n : ℕ) (c : All C) → S n → Keeps c → Keeps (effect.at_entry_end go plan barrier p object id back o n c)
     at_entry_end_keeps p object id back o n c s w =
-        let f : TaskAt C → TaskAt C = (λ t. record t { own = record (closed t.own) { status = back.status; pending = back.pending } }) in
-        let outcome : Outcome = effect.entry_outcome go plan barrier p (effect.formals_now go plan barrier o.frame (length (call_of id c).values) c) in
-        serviced_keeps object o.at n (effect.end_call go plan barrier outcome id (on_task n f c)) s
-        (end_call_keeps outcome id (on_task n f c)
+        let f : TaskAt C → TaskAt C = (λ t. record t { own = record (closed t.own) { status = back.status; pending = back.pending; again = None } }) in
+        let r : Option Again = (own_of n c).again in
+        let values : List ℤ = effect.present_values go plan barrier id o.frame c in
+        serviced_keeps object o.at n (effect.entry_ended go plan barrier p r values object id (on_task n f c)) s
+        (entry_ended_keeps p r values object id (on_task n f c)
         (on_still n f c s (λ t still. rests (ap (λ (k : Core). k.abnormal) (closed_core t.own)) (ap (λ (k : Core). k.waits) (closed_core t.own)) still) w))
 
     serves_oldest_keeps : (ws : List Waiting) (v : Serving) (n : ℕ) (c : All C) → S n → Keeps c → Keeps (effect.serves_oldest go plan barrier ws v n c)
@@ -524,20 +579,20 @@ module _ {C : Type 0} (S : ℕ → Type 0) where
 
     -- Leaving.
 
-    at_end_by_keeps : (purpose : Purpose) (p : Option Pending) (o : Opened) (n : ℕ) (c : All C) → S n → Keeps c → Keeps (effect.at_end_by go plan barrier purpose p o n c)
-    at_end_by_keeps for_body p o n c s w = completes_keeps (exception_of p) n c w
-    at_end_by_keeps for_block p o n c s w = at_block_end_keeps p o n (on_own n out_of_loops c) (on_own_keeps n out_of_loops c (λ own. alike (loops_core own)) w)
-    at_end_by_keeps for_loop p o n c s w = w
-    at_end_by_keeps (for_procedure r) p o n c s w = at_procedure_end_keeps p r o n (on_own n out_of_loops c) (on_own_keeps n out_of_loops c (λ own. alike (loops_core own)) w)
-    at_end_by_keeps (for_operation object r) p o n c s w = at_operation_end_keeps p object r o n (on_own n out_of_loops c) s (on_own_keeps n out_of_loops c (λ own. alike (loops_core own)) w)
-    at_end_by_keeps (for_entry object id served resumed) p o n c s w = at_entry_end_keeps p object id resumed o n (on_own n out_of_loops c) s (on_own_keeps n out_of_loops c (λ own. alike (loops_core own)) w)
-    at_end_by_keeps (for_accept id) p o n c s w = at_accept_end_keeps p id o n (on_own n out_of_loops c) (on_own_keeps n out_of_loops c (λ own. alike (loops_core own)) w)
+    at_end_by_keeps : (alternative : Option ℕ) (purpose : Purpose) (p : Option Pending) (o : Opened) (n : ℕ) (c : All C) → S n → Keeps c → Keeps (effect.at_end_by go plan barrier alternative purpose p o n c)
+    at_end_by_keeps alternative for_body p o n c s w = completes_keeps (exception_of p) n c w
+    at_end_by_keeps alternative for_block p o n c s w = at_block_end_keeps p o n (on_own n out_of_loops c) (on_own_keeps n out_of_loops c (λ own. alike (loops_core own)) w)
+    at_end_by_keeps alternative for_loop p o n c s w = w
+    at_end_by_keeps alternative (for_procedure r) p o n c s w = at_procedure_end_keeps p r o n (on_own n out_of_loops c) (on_own_keeps n out_of_loops c (λ own. alike (loops_core own)) w)
+    at_end_by_keeps alternative (for_operation object r) p o n c s w = at_operation_end_keeps p object r o n (on_own n out_of_loops c) s (on_own_keeps n out_of_loops c (λ own. alike (loops_core own)) w)
+    at_end_by_keeps alternative (for_entry object id served resumed) p o n c s w = at_entry_end_keeps p object id resumed o n (on_own n out_of_loops c) s (on_own_keeps n out_of_loops c (λ own. alike (loops_core own)) w)
+    at_end_by_keeps alternative (for_accept id) p o n c s w = at_accept_end_keeps alternative p id o n (on_own n out_of_loops c) (on_own_keeps n out_of_loops c (λ own. alike (loops_core own)) w)
 
-    at_end_of_keeps : (os : List Opened) (p : Option Pending) (n : ℕ) (c : All C) → S n → Keeps c → Keeps (effect.at_end_of go plan barrier os p n c)
-    at_end_of_keeps [] p n c s w = w
-    at_end_of_keeps (o ∷ os) p n c s w = at_end_by_keeps o.purpose p o n c s w
+    at_end_of_keeps : (alternative : Option ℕ) (os : List Opened) (p : Option Pending) (n : ℕ) (c : All C) → S n → Keeps c → Keeps (effect.at_end_of go plan barrier alternative os p n c)
+    at_end_of_keeps alternative [] p n c s w = w
+    at_end_of_keeps alternative (o ∷ os) p n c s w = at_end_by_keeps alternative o.purpose p o n c s w
 
-    pub leaves_keeps : (p : Option Pending) (to : C → C) (n : ℕ) (c : All C) → S n → Keeps c → Keeps (step.leaves go plan barrier p to n c)
-    leaves_keeps p to n c s w =
+    pub leaves_keeps : (alternative : Option ℕ) (p : Option Pending) (to : C → C) (n : ℕ) (c : All C) → S n → Keeps c → Keeps (step.leaves go plan barrier alternative p to n c)
+    leaves_keeps alternative p to n c s w =
         let f : TaskAt C → TaskAt C = (λ t. record t { control = to t.control; own = record t.own { pending = None } }) in
-        at_end_of_keeps (out_of_loops (own_of n (on_task n f c))).opened p n (on_task n f c) s (on_task_keeps n f c (λ t. alike refl) w)
+        at_end_of_keeps alternative (out_of_loops (own_of n (on_task n f c))).opened p n (on_task n f c) s (on_task_keeps n f c (λ t. alike refl) w)

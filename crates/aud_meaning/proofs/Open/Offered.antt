@@ -3,7 +3,7 @@ use Rattle.std.proofs.Common.{◌≡◌, ℕ, suc, ℤ, pos, List, [], ◌∷◌
 use Rattle.aud_text.specs.declared.place.Pos.{Pos}
 use Rattle.aud_text.specs.declared.raise.Raise.{Raise}
 use Rattle.aud_typed.specs.Tree as tree
-use Rattle.aud_typed.specs.Tree.{Callee, of_task, of_object, Statement, sequence, declare, declare_array, declare_tasks, declare_object, activated, activate, null, assign, put, if_then, plain_loop, while_loop, for_loop, exit, return, return_value, raising, raising_again, block, procedure_call, own_entry_call, operation_call, entry_call, delay, accept, select, abort, Alternatives, no_alternatives, accepting, delaying, terminating, Part}
+use Rattle.aud_typed.specs.Tree.{Callee, of_task, of_object, Statement, sequence, declare, declare_array, declare_tasks, declare_object, activated, activate, null, assign, put, if_then, plain_loop, while_loop, for_loop, exit, return, return_value, raising, raising_again, block, procedure_call, own_entry_call, operation_call, entry_call, delay, accept, select, abort, requeue, Alternatives, no_alternatives, accepting, delaying, terminating, Part}
 use Rattle.aud_meaning.specs.declared.state.Owner.TheVariants as owner
 use Rattle.aud_meaning.specs.declared.state.Pending.{Pending}
 use Rattle.aud_meaning.specs.declared.state.OpenDelay.{OpenDelay}
@@ -12,7 +12,7 @@ use Rattle.aud_meaning.specs.Evaluation.{Sight, decided, delay_of, evaluated, nu
 use Rattle.aud_meaning.specs.Control.{Called, Coming, selecting, Asked, selects, goes_on, goes_out, Scene, Controls}
 use Rattle.aud_meaning.specs.Control as asked
 use Rattle.aud_meaning.specs.Items.{is_some_part, reached_at}
-use Rattle.aud_meaning.specs.Statements.{asked_call, asked_item, asked_statement, asks, both, branch, called, coming, coming_item, components, controls, entered_with, guards_from, handled_or_left, has_else, if_open, names_tasks, next_asked, open_or_none, or_raises, or_raises_in_part, stored, timed_from, waits_of}
+use Rattle.aud_meaning.specs.Statements.{asked_call, asked_item, asked_requeue, asked_statement, asks, both, branch, called, coming, coming_item, components, controls, entered_with, guards_from, handled_or_left, has_else, if_open, names_tasks, next_asked, open_or_none, or_raises, or_raises_in_part, stored, timed_from, waits_of}
 use Rattle.aud_meaning.proofs.Open.Picked.{AllNumbered}
 
 -- what is asked is what was seen to come
@@ -73,6 +73,10 @@ select_offered at offered p s = by (guards_from 1 offered s.sight) (guards_numbe
     by (Ok w) h = timed w h (timed_from w.delays offered s.clock s.sight)
     by (Err raise) h = tt
 
+requeue_offered : (at : Pos) (r : tree.Requeue) (callee : Callee) (loops : ℕ) (s : Scene) (next : Coming) → Offered (asked_requeue at r callee loops s) next
+requeue_offered at r (of_task t) loops s next = raised (task_named t s.sight) at _ next (λ n. tt)
+requeue_offered at r (of_object v) loops s next = tt
+
 statement_offered : (plan : tree.Plan) (a : Statement) (loops : ℕ) (s : Scene) → Offered (asked_statement a loops s) (coming_item plan (Do a ∷ []) s.sight)
 statement_offered plan (sequence a b) loops s = tt
 statement_offered plan (declare at up_to e) loops s = raised_in_part (value_of e s.sight) at (λ z. asked.declares up_to z) _ (λ z. tt)
@@ -106,6 +110,7 @@ statement_offered plan (delay at e) loops s = raised (delay_of e s.sight) at (λ
 statement_offered plan (accept at entry d) loops s = tt
 statement_offered plan (select at offered p) loops s = select_offered at offered p s
 statement_offered plan (abort at ts) loops s = raised (names_tasks ts s.sight) at (λ ns. asked.aborts ns at) _ (λ ns. tt)
+statement_offered plan (requeue at r) loops s = requeue_offered at r r.callee loops s _
 
 next_offered : (a : Statement) (next : Coming) → Offered (next_asked a) next
 next_offered (for_loop f x y inner) next = tt

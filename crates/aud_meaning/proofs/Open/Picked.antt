@@ -9,7 +9,7 @@ use Rattle.aud_meaning.specs.Configuration.{Call, TaskAt, All}
 use Rattle.aud_meaning.specs.Evaluation.{Sight}
 use Rattle.aud_meaning.specs.Control.{Coming, simply, ending, selecting, calling, starting, Seen}
 use Rattle.aud_meaning.specs.Parts.{Waiting, queue}
-use Rattle.aud_meaning.specs.Run.{picks, Turn, resting, closing, completing, withdrawing, serving, expiring, cancelling, acting, turn, turn_at, each_or_one, has_queue, alternatives_of, acting_moves, turn_moves, moves_from, has_ended, moves_by, moves}
+use Rattle.aud_meaning.specs.Run.{picks, Turn, resting, closing, completing, withdrawing, serving, restarting, expiring, cancelling, acting, turn, turn_at, each_or_one, has_queue, alternatives_of, acting_moves, turn_moves, moves_from, has_ended, moves_by, moves}
 use Rattle.aud_meaning.proofs.Counts.{Of, turn_of}
 use Rattle.aud_meaning.proofs.Stuck.{turn_same}
 use Rattle.aud_meaning.proofs.Open.Queues.{AllUnqueued, not_empty}
@@ -37,6 +37,7 @@ FitsTurn closing n calls m = Unit {0}
 FitsTurn completing n calls m = Unit {0}
 FitsTurn (withdrawing object) n calls m = Unit {0}
 FitsTurn (serving s) n calls m = Unit {0}
+FitsTurn (restarting r) n calls m = Unit {0}
 FitsTurn (expiring ds) n calls m = Unit {0}
 FitsTurn (cancelling id) n calls m = Unit {0}
 FitsTurn (acting next) n calls m = FitsNext next n calls m
@@ -123,6 +124,7 @@ module _ (plan : Plan) (barrier : ℕ → Sight → Result Bool Raise) (s : All 
     turn_fit completing = (tt, tt)
     turn_fit (withdrawing object) = each_move _ (λ m. tt) _
     turn_fit (serving v) = each_move _ (λ m. tt) _
+    turn_fit (restarting r) = each_move _ (λ m. tt) _
     turn_fit (expiring ds) = each_move _ (λ m. tt) _
     turn_fit (cancelling id) = each_move _ (λ m. tt) _
     turn_fit (acting next) = next_fit next

@@ -14,10 +14,11 @@ use Rattle.aud_meaning.specs.declared.state.Owner.{Owner}
 use Rattle.aud_meaning.specs.declared.state.Owner.TheVariants as owner
 use Rattle.aud_meaning.specs.declared.state.OpenAccept.{OpenAccept}
 use Rattle.aud_meaning.specs.declared.state.Serving.{Serving}
+use Rattle.aud_meaning.specs.declared.state.Restart.{Restart}
 use Rattle.aud_meaning.specs.declared.state.Move.{Move}
 use Rattle.aud_meaning.specs.Configuration.{Waits, Own, Call, Shared, TaskAt, All, Acting}
 use Rattle.aud_meaning.specs.Evaluation.{Sight, nearest_zero}
-use Rattle.aud_meaning.specs.Control.{Coming, Asked, raises_here, raises_in_part, declares, declares_array, declares_tasks, declares_object, ends_activation, activates, goes_on, assigns, puts, enters_loop, next_of_loop, goes_out, raises, raises_again, enters_block, calls_procedure, calls_operation, calls_own_entry, calls_entry, delays, accepts, selects, aborts, ends, handles, is_left_by, Called, Seen, Controls}
+use Rattle.aud_meaning.specs.Control.{Coming, Asked, raises_here, raises_in_part, declares, declares_array, declares_tasks, declares_object, ends_activation, activates, goes_on, assigns, puts, enters_loop, next_of_loop, goes_out, raises, raises_again, enters_block, calls_procedure, calls_operation, calls_own_entry, calls_entry, delays, accepts, selects, aborts, requeues, ends, handles, is_left_by, Called, Seen, Controls}
 use Rattle.aud_meaning.specs.Effects.{has_room, innermost, out_of}
 use Rattle.aud_meaning.specs.Effects as effects
 use Rattle.aud_meaning.specs.Orders.{Orders, carried_out}
@@ -25,7 +26,7 @@ use Rattle.aud_meaning.specs.Parts.{Waiting, acting as acting_task, alone, is_ac
 use Rattle.aud_meaning.specs.Tasks as effect
 use Rattle.aud_meaning.specs.Step as step
 use Rattle.aud_meaning.specs.Step.{call_record, done}
-use Rattle.aud_meaning.specs.Run.{Turn, resting, closing, completing, withdrawing, serving, expiring, cancelling, acting, alternative_or_none, Deferred, at_once, usual, under_way, turn_by, turn, turn_at, turn_taken, seen_from, seen, scene_of, step_with, take_by, take_one, run_by, run_with, moves_at, opening_with}
+use Rattle.aud_meaning.specs.Run.{Turn, resting, closing, completing, withdrawing, serving, restarting, expiring, cancelling, acting, alternative_or_none, Deferred, at_once, running, usual, under_way, turn_by, turn, turn_at, turn_taken, seen_from, seen, scene_of, step_with, take_by, take_one, run_by, run_with, moves_at, opening_with}
 use Rattle.aud_meaning.specs.Statements.{controls}
 use Rattle.aud_meaning.specs.Why.Alone.{IsAlone, acts}
 use Rattle.aud_meaning.specs.Why.Carried.{carried_by}
@@ -34,7 +35,7 @@ use Rattle.aud_meaning.proofs.Alone.{alone_law}
 use Rattle.aud_meaning.proofs.Carrying.{carried_law}
 use Rattle.aud_meaning.proofs.Limits.Frames.{found_all, numbers_unbegun, Unbegun}
 use Rattle.aud_meaning.proofs.Open.Tasks.{Got, Lets, alike, closed_core, got, loops_core, out_core}
-use Rattle.aud_meaning.proofs.Open.Kept.{AllIn, Holds, aborts_keeps, activates_keeps, activation_ended_keeps, alone_keeps, call_expires_keeps, calls_object_keeps, calls_operation_keeps, calls_task_keeps, closes_keeps, completes_keeps, declares_tasks_keeps, delay_expires_keeps, delays_for_keeps, either, leaves_keeps, none_missed, on_control_keeps, on_own_keeps, raised_at_keeps, raises_in_part_keeps, rendezvous_keeps, serves_keeps, withdraws_keeps}
+use Rattle.aud_meaning.proofs.Open.Kept.{AllIn, Holds, aborts_keeps, activates_keeps, activation_ended_keeps, alone_keeps, call_expires_keeps, calls_object_keeps, calls_operation_keeps, calls_task_keeps, closes_keeps, completes_keeps, declares_tasks_keeps, delay_expires_keeps, delays_for_keeps, either, leaves_keeps, none_missed, on_control_keeps, on_own_keeps, raised_at_keeps, raises_in_part_keeps, rendezvous_keeps, serves_keeps, starts_again_keeps, withdraws_keeps}
 use Rattle.aud_meaning.proofs.Open.Queues.{AllUnqueued, blocked_unmet, found_open, none_queued, queue_empty}
 use Rattle.aud_meaning.proofs.Open.Picked.{AllMoves, Chosen, FitsNext, FitsTurn, all_chosen, at_number, at_or_first, chosen_still}
 use Rattle.aud_meaning.proofs.Open.Offered.{Offered, Offers, program_offers}
@@ -84,6 +85,7 @@ module _ {C : Type 0} (limits : Limits) (go : Orders C) (plan : Plan) (barrier :
   acts_lets (enters_block at region) t = either_acting t.own (has_room t.own) _ _ (alike refl) (alike refl)
   acts_lets (calls_procedure at unit p into) t = either_acting t.own (has_room t.own) _ _ (alike refl) (alike refl)
   acts_lets (calls_own_entry at) t = alike refl
+  acts_lets (requeues loops r) t = alike (out_core loops (record t.own { again = Some r }))
   acts_lets (handles p) t = alike (loops_core t.own)
   acts_lets a t = alike refl
 
@@ -214,11 +216,12 @@ module _ {C : Type 0} (limits : Limits) (go : Orders C) (plan : Plan) (barrier :
     done_keeps alternative (accepts a) c free is w = accepts_done a c free w
     done_keeps alternative (selects has_else waits at) c free is w = selects_done alternative has_else waits at c free is w
     done_keeps alternative (aborts ns at) c free is w = none_missed (aborts_keeps (Mine n) go plan barrier ns at n c w)
+    done_keeps alternative (requeues loops r) c free is w = alone_done alternative (requeues loops r) tt c w
     done_keeps alternative (ends loops) c free is w =
         none_missed
-        (on_own_keeps (Mine n) n (out_of loops) (step.leaves go plan barrier None go.behind n c) (λ own. alike (out_core loops own)) (leaves_keeps (Mine n) go plan barrier None go.behind n c refl w))
+        (on_own_keeps (Mine n) n (out_of loops) (step.leaves go plan barrier alternative None go.behind n c) (λ own. alike (out_core loops own)) (leaves_keeps (Mine n) go plan barrier alternative None go.behind n c refl w))
     done_keeps alternative (handles p) c free is w = alone_done alternative (handles p) tt c w
-    done_keeps alternative (is_left_by p) c free is w = none_missed (leaves_keeps (Mine n) go plan barrier (Some p) (go.left p.exception) n c refl w)
+    done_keeps alternative (is_left_by p) c free is w = none_missed (leaves_keeps (Mine n) go plan barrier alternative (Some p) (go.left p.exception) n c refl w)
 
   -- Turns, each with what it tells of the task.
 
@@ -228,6 +231,7 @@ module _ {C : Type 0} (limits : Limits) (go : Orders C) (plan : Plan) (barrier :
   Tells own next completing = Unit {0}
   Tells own next (withdrawing object) = own.abnormal ≡ true
   Tells own next (serving s) = is_some own.serving ≡ true
+  Tells own next (restarting r) = is_accepting own.status ≡ false
   Tells own next (expiring ds) = Unit {0}
   Tells own next (cancelling id) = is_accepting own.status ≡ false
   Tells own next (acting x) = (is_accepting own.status ≡ false) × (is_some own.serving ≡ false) × (x ≡ next)
@@ -236,10 +240,14 @@ module _ {C : Type 0} (limits : Limits) (go : Orders C) (plan : Plan) (barrier :
     abbrev Told : Turn → Type 0
     Told u = Tells x.own x.control.coming u
 
+    running_told : (r : Option Restart) → x.own.serving ≡ None → x.own.status ≡ Running → Told (running plan barrier r x.control.coming)
+    running_told None e h = (ap is_accepting h, ap is_some e, refl)
+    running_told (Some r) e h = ap is_accepting h
+
     usual_told : (v : Option Serving) (status : Status) → x.own.serving ≡ v → x.own.status ≡ status → Told (usual plan barrier v status n x s)
     usual_told (Some v) status e h = ap is_some e
     usual_told None Created e h = tt
-    usual_told None Running e h = (ap is_accepting h, ap is_some e, refl)
+    usual_told None Running e h = running_told x.own.restart e h
     usual_told None Activating e h = tt
     usual_told None Accepting e h = tt
     usual_told None Delaying e h = tt
@@ -290,6 +298,7 @@ module _ {C : Type 0} (limits : Limits) (go : Orders C) (plan : Plan) (barrier :
     taken_keeps completing next a told offered fits = none_missed (completes_keeps Nobody go plan barrier None n c all_hold)
     taken_keeps (withdrawing object) next a told offered fits = none_missed (withdraws_keeps (Mine n) go plan barrier object n c refl (one_still (λ e. absurd (true≢false (sym told ∙ e)))))
     taken_keeps (serving v) next a told offered fits = none_missed (serves_keeps (Mine n) go plan barrier m.alternative v n c refl (one_still ((w.settled n).1 told)))
+    taken_keeps (restarting r) next a told offered fits = none_missed (starts_again_keeps (Mine n) go plan barrier r n c refl (one_still ((w.settled n).0 told)))
     taken_keeps (expiring ds) next a told offered fits = none_missed (delay_expires_keeps Nobody go plan barrier (alternative_or_none m.alternative) n c all_hold)
     taken_keeps (cancelling id) next a told offered fits = none_missed (call_expires_keeps (Mine n) go plan barrier n c refl (one_still ((w.settled n).0 told)))
     taken_keeps (acting x) next a told offered fits =

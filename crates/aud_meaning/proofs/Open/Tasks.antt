@@ -95,6 +95,11 @@ module _ (P : Call → Type 0) where
   one_call_more call (c ∷ cs) g zero h = h
   one_call_more call (c ∷ cs) g (suc i) h = one_call_more call cs g i h
 
+pub changed_call : (P : Call → Type 0) (id : ℕ) (f : Call → Call) (calls : List Call) → P no_call → ((call : Call) → call ≡ call_at id calls → P (f call)) → P (call_at id (changed id f calls))
+changed_call P id f [] none g = none
+changed_call P zero f (c ∷ cs) none g = g c refl
+changed_call P (suc id) f (c ∷ cs) none g = changed_call P id f cs none g
+
 pub last_call : (calls : List Call) (call : Call) → call_at (length calls) (calls ++ call ∷ []) ≡ call
 last_call [] call = refl
 last_call (c ∷ cs) call = last_call cs call

@@ -8,11 +8,11 @@ use Rattle.aud_typed.specs.declared.program.Exception.TheVariants.{Predefined}
 use Rattle.aud_typed.specs.Tree.{Plan}
 use Rattle.aud_meaning.specs.Configuration.{for_block, for_procedure, All, Acting}
 use Rattle.aud_meaning.specs.Evaluation.{Sight, nearest_zero}
-use Rattle.aud_meaning.specs.Control.{Asked, raises_here, raises_in_part, declares, declares_array, declares_tasks, declares_object, ends_activation, activates, goes_on, assigns, puts, enters_loop, next_of_loop, goes_out, raises, raises_again, enters_block, calls_procedure, calls_operation, calls_own_entry, calls_entry, delays, accepts, selects, aborts, ends, handles, is_left_by}
+use Rattle.aud_meaning.specs.Control.{Asked, raises_here, raises_in_part, declares, declares_array, declares_tasks, declares_object, ends_activation, activates, goes_on, assigns, puts, enters_loop, next_of_loop, goes_out, raises, raises_again, enters_block, calls_procedure, calls_operation, calls_own_entry, calls_entry, delays, accepts, selects, aborts, requeues, ends, handles, is_left_by}
 use Rattle.aud_meaning.specs.Effects as own
 use Rattle.aud_meaning.specs.Orders.{Orders}
 use Rattle.aud_meaning.specs.Parts.{alone, unit_of}
-use Rattle.aud_meaning.specs.Step.{done, moves_on, variable_declared, stored_at, loop_entered, loop_continued, out_of_loops, with_function_value, if_room, not_handled}
+use Rattle.aud_meaning.specs.Step.{done, moves_on, variable_declared, stored_at, loop_entered, loop_continued, out_of_loops, requeued, with_function_value, if_room, not_handled}
 
 abbrev pub IsAlone : Asked → Type 0
 IsAlone (raises_here raise at) = Unit {0}
@@ -40,6 +40,7 @@ IsAlone (delays ms at) = ⊥
 IsAlone (accepts a) = ⊥
 IsAlone (selects has_else w at) = ⊥
 IsAlone (aborts ns at) = ⊥
+IsAlone (requeues loops r) = Unit {0}
 IsAlone (ends loops) = ⊥
 IsAlone (handles p) = Unit {0}
 IsAlone (is_left_by p) = ⊥
@@ -62,6 +63,7 @@ module _ {C : Type 0} (go : Orders C) (plan : Plan) (barrier : ℕ → Sight →
       let u = unit_of plan unit in
       if_room go plan barrier at t (own.opens (for_procedure (record { is_function = u.is_function; backs = p.backs; into = into; value = None })) u.region at (take u.level t.own.display) p.values (length p.values) (record t { control = go.enters unit t.control }))
   acts (calls_own_entry at) t = own.raises (Predefined Program) at t
+  acts (requeues loops r) t = out_of_loops go plan barrier loops (requeued go plan barrier r t)
   acts (handles p) t = record t { control = go.handling p.exception t.control; own = own.handles p t.own }
   acts a t = t
 

@@ -7,7 +7,7 @@ use Rattle.aud_names.specs.declared.names.Region as memory
 use Rattle.aud_names.specs.Names.{Region, Place, place_in, outermost}
 
 abbrev pub plain_region : memory.Region → Region
-plain_region r = record { symbols = r.symbols.entries; level = r.level; cells = r.cells; names = r.names; awaited = r.awaited.items; objects = r.objects.items; entries = r.entries.items; parts = r.parts.items; own = r.own }
+plain_region r = record { symbols = r.symbols.entries; level = r.level; cells = r.cells; names = r.names; awaited = r.awaited.items; objects = r.objects.items; entries = r.entries.items; parts = r.parts.items; own = r.own; accept = r.accept }
 
 -- in memory the outermost region is not among them
 abbrev pub plain_regions : List (Bor memory.Region) → List Region

@@ -274,6 +274,7 @@ abbrev mutual
   plain_statement (Select' _ x) = plain_select x
   plain_statement (SelectCall' _ at x _ behind otherwise) = m.select_call at (plain_name x) (plain_row behind) (plain_other otherwise)
   plain_statement (statement.Abort x) = plain_abort x.value
+  plain_statement (statement.Requeue at x with_abort) = m.requeue at (plain_name x.value) with_abort
 
   pub plain_row : {n : _} → Row_of-Statement n → m.MoreStatements
   plain_row end_of-Statement = m.no_statements

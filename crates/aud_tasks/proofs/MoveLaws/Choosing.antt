@@ -4,7 +4,7 @@ use Rattle.aud_typed.specs.Tree.{Plan}
 use Rattle.aud_meaning.specs.declared.state.Move.{Move}
 use Rattle.aud_meaning.specs.declared.state.OpenAccept.{OpenAccept}
 use Rattle.aud_meaning.specs.Configuration.{Own, TaskAt, All}
-use Rattle.aud_meaning.specs.Control.{Coming, Seen, calling}
+use Rattle.aud_meaning.specs.Control.{Coming, Seen, calling, ending}
 use Rattle.aud_meaning.specs.Parts.{open_alternatives, own_of}
 use Rattle.aud_meaning.specs.Run as run
 use Rattle.aud_meaning.specs.Run.{acting_moves, alternatives_of, has_queue, own_move, seen}
@@ -15,12 +15,12 @@ use Rattle.aud_code.specs.Places.{Spot}
 use Rattle.aud_code.specs.Sound.{IsStart}
 use Rattle.aud_code.specs.Starts.{AreSpots}
 use Rattle.aud_expr.specs.Flow.{IsMarked}
-use Rattle.aud_tasks.specs.Choices.{comes_of, ComesTo}
+use Rattle.aud_tasks.specs.Choices.{again_in, comes_of, ComesTo}
 use Rattle.aud_tasks.specs.declared.choice.Choice.{Choice}
 use Rattle.aud_tasks.specs.declared.choice.Choice.TheVariants.{Select, Call}
 use Rattle.aud_tasks.specs.Enabled.{each_or_one}
 use Rattle.aud_tasks.specs.Turning.{coming_in}
-use Rattle.aud_tasks.proofs.MoveLaws.Moving.{own_seen}
+use Rattle.aud_tasks.proofs.MoveLaws.Moving.{ending_seen, own_seen}
 use Rattle.aud_tasks.proofs.StepLaws.Stepping.{spot_at, starts}
 
 -- it stands where a step begins
@@ -77,3 +77,13 @@ module _ (plan : Plan) (code : Flat) (n : ℕ) (c : All Spot) where
   pub none_called : (choice : Choice) (entry : ℕ) (x : Ended) (o : Operands) → choice ≡ Call entry → x ≡ Marked o → newest o.names ≡ None → coming_in plan code n c ≡ comes_of choice x → own_move n ∷ [] ≡ moves_by (coming_in plan code n c)
   none_called choice entry x o is marks named comes =
       ap moves_by (sym (comes ∙ ap (λ k. comes_of k x) is ∙ ap (comes_of (Call entry)) marks ∙ ap (λ called. calling called entry) named))
+
+  -- or it leaves an accept whose call is made again on an entry of this task
+  pub all_again : (task entry : ℕ) (numbers : List ℕ) → coming_in plan code n c ≡ ending → again_in n c ≡ Some (task, entry) →
+      numbers ≡ map (λ (a : OpenAccept). a.alternative) (open_alternatives (own_of task c) entry) → each_or_one n numbers ≡ moves_by (coming_in plan code n c)
+  all_again task entry numbers comes is are =
+      ap (each_or_one n) are
+      ∙ same_each (alternatives_of plan (barrier_at code) (open_alternatives (own_of task c) entry))
+      ∙ ap (λ (own : Own). run.each_or_one plan (barrier_at code) (alternatives_of plan (barrier_at code) (open_alternatives own entry)) n) (sym (own_seen plan code c task))
+      ∙ sym (ending_seen plan code c n (Some (task, entry)) is)
+      ∙ ap moves_by (sym comes)

@@ -53,6 +53,8 @@ module _ (plan : Plan) (s : Sight) (x : Ended) where
   told (Concerns (among.Operation v unit) next) = (tt, tt)
   told (Concerns among.Delay next) = (tt, tt)
   told (Concerns among.Abort next) = (tt, tt)
+  told (Concerns (among.RequeueTask again way) next) = (tt, tt)
+  told (Concerns (among.RequeueObject v again way) next) = (tt, tt)
   told (Concerns (among.Accept entry region body) next) = (tt, tt)
   told (Concerns (among.Select has_else own offers) next) = (refl, tt)
   told (Continues f behind inside) = (tt, tt)

@@ -2,7 +2,7 @@
 use Rattle.std.proofs.Common.{◌≡◌, ◌<◌, ◌≤◌, ◌+◌, ℕ, zero, suc, List, [], ◌∷◌, ◌++◌, length, drop, map, get_or, Option, Some, None, Bool, true, false, Result, Ok, Err, if◌then◌else◌, slice_get, slice_index_or, add-one, append_assoc, refl, ap, sym, ◌∙◌, arith}
 use Rattle.std.proofs.lemmas.List.{at_drop_all, at_drop_more}
 use Rattle.std.proofs.lemmas.Option.{slice_get-get_or, slice_get_within}
-use Rattle.std.specs.Prelude.{filter, nat_le, not, ◌&&◌, ◌||◌}
+use Rattle.std.specs.Prelude.{filter, is_some, nat_le, not, ◌&&◌, ◌||◌}
 use Rattle.aud_text.specs.declared.raise.Raise.{Raise}
 use Rattle.aud_typed.specs.Tree.{Plan}
 use Rattle.aud_meaning.specs.declared.state.Form.{Form}
@@ -12,10 +12,10 @@ use Rattle.aud_meaning.specs.declared.state.Owner.{Owner}
 use Rattle.aud_meaning.specs.declared.state.Owner.TheVariants as owner
 use Rattle.aud_meaning.specs.declared.state.State.{State}
 use Rattle.aud_meaning.specs.declared.state.State.TheVariants as state
-use Rattle.aud_meaning.specs.Configuration.{Call, Own, Shared, TaskAt, All}
+use Rattle.aud_meaning.specs.Configuration.{Call, Opened, Own, Shared, TaskAt, All}
 use Rattle.aud_meaning.specs.Control.{Coming, Seen, simply, ending, selecting, calling, starting}
 use Rattle.aud_meaning.specs.Parts.{any, body_master, depends, facts_in, in_the_way, is_queued, is_terminated, may_terminate, nobody, object_of, open_alternatives, own_of, owns, queue, Closable}
-use Rattle.aud_meaning.specs.Run.{acting, acting_moves, alternatives_of, call_time, call_time_by, construct_left, each_or_one, end_moves, has_ended, has_queue, master_left_by, moves_at, moves_by, moves_from, only, own_move, owner_idle, seen, seen_from, serve_moves, some_move, state_at, state_by, times_from, turn_at, turn_moves, turn_times, waiting_by}
+use Rattle.aud_meaning.specs.Run.{acting, acting_moves, again_left, alternatives_of, call_moves, call_time, call_time_by, construct_left, each_or_one, end_moves, ending_moves, has_ended, has_queue, master_left_by, moves_at, moves_by, moves_from, only, own_move, owner_idle, seen, seen_from, serve_moves, some_move, state_at, state_by, times_from, turn_at, turn_moves, turn_times, waiting_by}
 use Rattle.aud_meaning.specs.Tasks.{barrier_of, eligible, eligible_from, eligible_if, entries_of}
 use Rattle.aud_code.specs.Places.{Spot}
 use Rattle.aud_code.specs.Flat.{Flat, barrier_at, flat_controls}
@@ -23,10 +23,11 @@ use Rattle.aud_state.specs.Reads.{cancelled_from, is_free, time_by, IsPlain}
 use Rattle.aud_masters.specs.Leaving.{leaves_freely, may_leave}
 use Rattle.aud_tasks.specs.declared.turn.Turn.{Turn}
 use Rattle.aud_tasks.specs.declared.turn.Turn.TheVariants.{Acting}
-use Rattle.aud_tasks.specs.Choices.{IsNoStart}
+use Rattle.aud_tasks.specs.Choices.{again_in, IsNoStart}
 use Rattle.aud_tasks.specs.Enabled as told
 use Rattle.aud_tasks.specs.Moving.{alone_if, has_some, moves_behind, moves_of, times_of, IsNextMover, IsSimple, IsSingle}
 use Rattle.aud_tasks.specs.Turning.{coming_in, turn_in, turned}
+use Rattle.aud_tasks.proofs.MoveLaws.Again.{leaves_none}
 use Rattle.aud_tasks.proofs.StepLaws.Turning.{turn_plain}
 use Rattle.aud_tasks.proofs.ViewLaws.Seen.{none_seen}
 
@@ -248,19 +249,28 @@ module _ (plan : Plan) (code : Flat) where
     pub starts_first : (n object : ℕ) (reading : Bool) → not (in_the_way n reading (object_of object c)) ≡ has_some (acting_moves plan (barrier_at code) (starting object reading) n d)
     starts_first n object reading = first_only (not (in_the_way n reading (object_of object c))) n
 
+    called_first : (x : ℕ × ℕ) (n : ℕ) → true ≡ has_some (call_moves plan (barrier_at code) (Some x.0) x.1 n d)
+    called_first x n = sym (each_first (alternatives_of plan (barrier_at code) (open_alternatives (own_of x.0 d) x.1)) n)
+
     ends_first : (m : Option ℕ) (n : ℕ) → may_leave m c ≡ has_some (end_moves plan (barrier_at code) m n d)
     ends_first None n = refl
     ends_first (Some master) n = sym (closable_seen master) ∙ first_only (Closable master d) n
+
+    -- so does one that makes a call again, which leaves no master
+    again_first : (again : Option (ℕ × ℕ)) (os : List Opened) (n : ℕ) → (is_some again ≡ true → master_left_by os ≡ None) → os ≡ construct_left (own_of n d) → may_leave (master_left_by os) c ≡ has_some (ending_moves plan (barrier_at code) again n d)
+    again_first None os n none is = ends_first (master_left_by os) n ∙ ap (λ l. has_some (end_moves plan (barrier_at code) (master_left_by l) n d)) is
+    again_first (Some x) os n none is = ap (λ m. may_leave m c) (none refl) ∙ called_first x n
 
     -- one at a choice always has some
     pub leaves_first : (n : ℕ) (x : Coming) → IsNoStart x → leaves_freely (own_of n c) x c ≡ has_some (acting_moves plan (barrier_at code) x n d)
     leaves_first n (simply w) no_start = refl
     leaves_first n ending no_start =
-        ends_first (master_left_by (construct_left (own_of n c))) n
-        ∙ ap (λ (o : Own). has_some (end_moves plan (barrier_at code) (master_left_by (construct_left o)) n d)) (sym (own_seen n))
+        let o = own_of n c in
+        again_first (again_left o.pending o.again (construct_left o)) (construct_left o) n (leaves_none o.pending o.again (construct_left o)) (ap construct_left (sym (own_seen n)))
+        ∙ ap (λ (w : Own). has_some (ending_moves plan (barrier_at code) (again_left w.pending w.again (construct_left w)) n d)) (sym (own_seen n))
     leaves_first n (selecting ones) no_start = sym (each_first (alternatives_of plan (barrier_at code) (filter (has_queue plan (barrier_at code) n d) ones)) n)
     leaves_first n (calling None entry) no_start = refl
-    leaves_first n (calling (Some task) entry) no_start = sym (each_first (alternatives_of plan (barrier_at code) (open_alternatives (own_of task d) entry)) n)
+    leaves_first n (calling (Some task) entry) no_start = called_first (task, entry) n
     leaves_first n (starting object reading) no_start = absurd no_start
 
     pub some_only : (b : Bool) (n : ℕ) → b ≡ has_some (alone_if b n)
@@ -288,13 +298,21 @@ module _ (plan : Plan) (code : Flat) where
         ap (λ u. turn_moves plan (barrier_at code) u n d) (turn_plain plan code n c plain)
         ∙ sym (simple_moves (coming_in plan code n c) n simple)
 
-    -- one that is not has one at most
-    pub single_moves : (x : Coming) (n : ℕ) → IsSingle x → alone_if (has_some (acting_moves plan (barrier_at code) x n d)) n ≡ acting_moves plan (barrier_at code) x n d
-    single_moves (simply w) n single = refl
-    single_moves ending n single = end_single (master_left_by (construct_left (own_of n d))) n
-    single_moves (selecting ones) n single = absurd single
-    single_moves (calling task entry) n single = absurd single
-    single_moves (starting object reading) n single = only_single (not (in_the_way n reading (object_of object d))) n
+    -- those at the end of a construct, with the entry on which its call is made again
+    pub ending_seen : (n : ℕ) (again : Option (ℕ × ℕ)) → again_in n c ≡ again → acting_moves plan (barrier_at code) ending n d ≡ ending_moves plan (barrier_at code) again n d
+    ending_seen n again is =
+        ap (λ (o : Own). ending_moves plan (barrier_at code) (again_left o.pending o.again (construct_left o)) n d) (own_seen n)
+        ∙ ap (λ x. ending_moves plan (barrier_at code) x n d) is
+
+    -- one at no choice, which makes no call again, has one at most
+    pub single_moves : (x : Coming) (n : ℕ) → IsSingle x → (x ≡ ending → again_in n c ≡ None) → alone_if (has_some (acting_moves plan (barrier_at code) x n d)) n ≡ acting_moves plan (barrier_at code) x n d
+    single_moves (simply w) n single none = refl
+    single_moves ending n single none =
+        let is = ending_seen n None (none refl) in
+        ap (λ ms. alone_if (has_some ms) n) is ∙ end_single (master_left_by (construct_left (own_of n d))) n ∙ sym is
+    single_moves (selecting ones) n single none = absurd single
+    single_moves (calling task entry) n single none = absurd single
+    single_moves (starting object reading) n single none = only_single (not (in_the_way n reading (object_of object d))) n
 
     -- the time of a call
     abbrev pub listed : Option ℕ → List ℕ
@@ -313,8 +331,8 @@ module _ (plan : Plan) (code : Flat) where
 
     pub call_times : (call : Call) → call_time plan (barrier_at code) call d ≡ listed (cancelled_from call c)
     call_times call =
-        ap (λ b. if is_queued call.state && b then call_time_by plan (barrier_at code) call.form else []) (free_same call.owner)
-        ∙ time_same (is_queued call.state && is_free call.owner c) call.form
+        ap (λ b. if is_queued call.state && not call.stays && b then call_time_by plan (barrier_at code) call.form else []) (free_same call.owner)
+        ∙ time_same (is_queued call.state && not call.stays && is_free call.owner c) call.form
 
     one_time : (b : Bool) (n time : ℕ) → alone_if b n ≡ map (λ (t : ℕ). own_move n) (if b then time ∷ [] else [])
     one_time true n time = refl

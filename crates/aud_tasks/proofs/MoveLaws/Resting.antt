@@ -45,7 +45,7 @@ module _ (plan : Plan) (code : Flat) (n : ℕ) (c : All Spot) where
       by false h = refl
 
   late : (call : Call) → is_later c.clock (time_by call.form) ≡ true → filter (λ (t : ℕ). nat_le t c.clock) (call_time plan (barrier_at code) call d) ≡ []
-  late call is_late = by (is_queued call.state && owner_idle plan (barrier_at code) call.owner d)
+  late call is_late = by (is_queued call.state && not call.stays && owner_idle plan (barrier_at code) call.owner d)
     where
       by : (b : Bool) → filter (λ (t : ℕ). nat_le t c.clock) (if b then call_time_by plan (barrier_at code) call.form else []) ≡ []
       by true = late_by call.form is_late

@@ -11,7 +11,7 @@ use Rattle.aud_typed.specs.Tree.{Plan}
 use Rattle.aud_code.specs.Places.{Spot}
 use Rattle.aud_code.specs.Flat.{Flat, barrier_at, flat_controls}
 use Rattle.aud_tasks.specs.declared.turn.Turn.{Turn}
-use Rattle.aud_tasks.specs.declared.turn.Turn.TheVariants.{Resting, Closing, Completing, Withdrawing, Serving, Expiring, Cancelling, Acting}
+use Rattle.aud_tasks.specs.declared.turn.Turn.TheVariants.{Resting, Closing, Completing, Withdrawing, Serving, Restarting, Expiring, Cancelling, Acting}
 use Rattle.aud_tasks.specs.Turning.{turned}
 use Rattle.aud_tasks.specs.Moving.{sooner, soonest}
 use Rattle.aud_tasks.proofs.MoveLaws.Delays.{no_delay}
@@ -45,6 +45,7 @@ module _ (plan : Plan) (code : Flat) (n : ℕ) (c : All Spot) where
   times_none Completing e f = refl
   times_none (Withdrawing object) e f = refl
   times_none (Serving s) e f = refl
+  times_none (Restarting r) e f = refl
   times_none Expiring e f = absurd (e refl)
   times_none Cancelling e f = absurd (f refl)
   times_none Acting e f = refl

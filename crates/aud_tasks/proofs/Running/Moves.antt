@@ -2,7 +2,7 @@
 -- an object, may differ, since guards, names and barriers depend on variables; then they have some moves all the same.
 use Rattle.std.proofs.Common.{◌≡◌, ◌+◌, ◌⊎◌, inl, inr, ℕ, zero, suc, List, [], ◌∷◌, ◌++◌, drop, Option, Some, None, Bool, true, false, not, ◌&&◌, ◌||◌, if◌then◌else◌, map, refl, ap, sym, subst, ◌∙◌, arith}
 use Rattle.std.proofs.lemmas.Option.{same_Some}
-use Rattle.std.specs.Prelude.{Result, Ok, Err, IfSome, filter, nat_le, slice_get, slice_index_or}
+use Rattle.std.specs.Prelude.{Result, Ok, Err, IfSome, filter, is_some, nat_le, slice_get, slice_index_or}
 use Rattle.aud_text.specs.declared.raise.Raise.{Raise}
 use Rattle.aud_typed.specs.Tree.{Plan}
 use Rattle.aud_meaning.specs.declared.state.Move.{Move}
@@ -12,13 +12,13 @@ use Rattle.aud_meaning.specs.declared.state.Owner.{Owner}
 use Rattle.aud_meaning.specs.declared.state.Owner.TheVariants as owner
 use Rattle.aud_meaning.specs.declared.state.Serving.{Serving}
 use Rattle.aud_meaning.specs.declared.state.Action.{Action}
-use Rattle.aud_meaning.specs.Configuration.{Call, Frame, Object, Opened, Own, Shared, TaskAt, All}
-use Rattle.aud_meaning.specs.Effects.{is_loop, outermost, out_of_loops_by}
+use Rattle.aud_meaning.specs.declared.state.Restart.{Restart}
+use Rattle.aud_meaning.specs.Configuration.{Call, Frame, Object, Own, Shared, TaskAt, All}
 use Rattle.aud_meaning.specs.Evaluation.{Sight}
 use Rattle.aud_meaning.specs.Control.{Seen, Coming, simply, ending, selecting, calling, starting}
 use Rattle.aud_meaning.specs.Parts.{nobody, in_the_way, is_idle, object_of, own_of, call_of, is_queued, owns, any, depends, may_terminate, Closable, body_master, in_action, open_alternatives}
 use Rattle.aud_meaning.specs.Tasks.{eligible}
-use Rattle.aud_meaning.specs.Run.{Turn, own_move, only, owner_idle, call_time_by, call_time, end_moves, each_or_one, alternatives_of, has_queue, acting_moves, master_left_by, construct_left, is_leave, is_bound, Deferred, at_once, serve_moves, usual, under_way, turn_by, turn, turn_moves, moves_from, has_ended, moves_by, moves}
+use Rattle.aud_meaning.specs.Run.{Turn, own_move, only, owner_idle, call_time_by, call_time, end_moves, call_moves, ending_moves, each_or_one, alternatives_of, has_queue, acting_moves, again_left, master_left_by, construct_left, is_leave, is_bound, Deferred, at_once, serve_moves, running, usual, under_way, turn_by, turn, turn_moves, moves_from, has_ended, moves_by, moves}
 use Rattle.aud_tasks.proofs.Running.Whose.{AreOf, moves_of}
 
 -- the same in both, or of a task of which it may differ
@@ -85,22 +85,22 @@ module _ (plan : Plan) (barrier : ℕ → Sight → Result Bool Raise) (d e : Al
   bares_alike Free Served Other Moved n (t ∷ ts) (u ∷ us) h =
       ap (λ o. o ∷ bares ts) (bare_same Free Served (Other n) (Moved n) n t u h.0) ∙ ap (λ os. bare u.own ∷ os) (bares_alike Free Served Other Moved (suc n) ts us h.1)
 
-  -- the open frames of the task of a number
-  abbrev pub opened_at : ℕ → List (TaskAt Seen) → List Opened
-  opened_at k ts = (slice_index_or (owns ts) k nobody).opened
+  -- the own part of the task of a number
+  abbrev pub own_in : ℕ → List (TaskAt Seen) → Own
+  own_in k ts = slice_index_or (owns ts) k nobody
 
-  opened_same : (Free : Status → Type 0) (Served Other Moved : Type 0) (n : ℕ) (t u : TaskAt Seen) → AlikeTask Free Served Other Moved t u ⊎ (Moved × MovedTask n t u) → (t.own.opened ≡ u.own.opened) ⊎ Moved
-  opened_same Free Served Other Moved n t u (inl h) = inl (ap (λ (o : Own). o.opened) h.own)
-  opened_same Free Served Other Moved n t u (inr h) = inr h.0
+  own_same : (Free : Status → Type 0) (Served Other Moved : Type 0) (n : ℕ) (t u : TaskAt Seen) → AlikeTask Free Served Other Moved t u ⊎ (Moved × MovedTask n t u) → (t.own ≡ u.own) ⊎ Moved
+  own_same Free Served Other Moved n t u (inl h) = inl h.own
+  own_same Free Served Other Moved n t u (inr h) = inr h.0
 
-  pub opened_alike : (Free : Status → Type 0) (Served : Type 0) (Other Moved : ℕ → Type 0) (n i k : ℕ) (ts us : List (TaskAt Seen)) → n + i ≡ k → AlikeTasks Free Served Other Moved n ts us → (opened_at i ts ≡ opened_at i us) ⊎ Moved k
-  opened_alike Free Served Other Moved n i k [] [] is h = inl refl
-  opened_alike Free Served Other Moved n i k [] (u ∷ us) is h = absurd h
-  opened_alike Free Served Other Moved n i k (t ∷ ts) [] is h = absurd h
-  opened_alike Free Served Other Moved n zero k (t ∷ ts) (u ∷ us) is h =
+  pub own_alike : (Free : Status → Type 0) (Served : Type 0) (Other Moved : ℕ → Type 0) (n i k : ℕ) (ts us : List (TaskAt Seen)) → n + i ≡ k → AlikeTasks Free Served Other Moved n ts us → (own_in i ts ≡ own_in i us) ⊎ Moved k
+  own_alike Free Served Other Moved n i k [] [] is h = inl refl
+  own_alike Free Served Other Moved n i k [] (u ∷ us) is h = absurd h
+  own_alike Free Served Other Moved n i k (t ∷ ts) [] is h = absurd h
+  own_alike Free Served Other Moved n zero k (t ∷ ts) (u ∷ us) is h =
       let same : n ≡ k = omega (arith, is) in
-      subst (λ m. (t.own.opened ≡ u.own.opened) ⊎ Moved m) same (opened_same Free Served (Other n) (Moved n) n t u h.0)
-  opened_alike Free Served Other Moved n (suc i) k (t ∷ ts) (u ∷ us) is h = opened_alike Free Served Other Moved (suc n) i k ts us (omega (arith, is)) h.1
+      subst (λ m. (t.own ≡ u.own) ⊎ Moved m) same (own_same Free Served (Other n) (Moved n) n t u h.0)
+  own_alike Free Served Other Moved n (suc i) k (t ∷ ts) (u ∷ us) is h = own_alike Free Served Other Moved (suc n) i k ts us (omega (arith, is)) h.1
 
 bare_at : (k : ℕ) (ts : List (TaskAt Seen)) → bare (slice_index_or (owns ts) k nobody) ≡ slice_index_or (bares ts) k nobody
 bare_at k [] = refl
@@ -138,19 +138,6 @@ head_of x y xs ys h = same_Some x y (ap (λ l. slice_get l 0) h)
 
 tail_of : (x y : Move) (xs ys : List Move) → x ∷ xs ≡ y ∷ ys → xs ≡ ys
 tail_of x y xs ys h = ap (drop 1) h
-
--- what is left next is a question of the open frames alone
-loops_left : (os : List Opened) (a b : Own) → a.opened ≡ b.opened → (out_of_loops_by os a).opened ≡ (out_of_loops_by os b).opened
-loops_left [] a b is = is
-loops_left (o ∷ os) a b is = by (is_loop o.purpose) (loops_left os (record a { display = o.saved; opened = os }) (record b { display = o.saved; opened = os }) refl)
-  where
-    by : (l : Bool) → (out_of_loops_by os (record a { display = o.saved; opened = os })).opened ≡ (out_of_loops_by os (record b { display = o.saved; opened = os })).opened →
-        (if l then out_of_loops_by os (record a { display = o.saved; opened = os }) else a).opened ≡ (if l then out_of_loops_by os (record b { display = o.saved; opened = os }) else b).opened
-    by true inner = inner
-    by false inner = is
-
-construct_there : (a b : Own) → a.opened ≡ b.opened → construct_left a ≡ construct_left b
-construct_there a b is = ap (λ os. (out_of_loops_by os a).opened) is ∙ loops_left b.opened a b is
 
 -- whether it keeps a master open
 abbrev keeps : ℕ → Own → Bool
@@ -194,7 +181,7 @@ quiet_same : (Other : Type 0) (ms ns : List Move) → (Other → HasSome ms → 
 quiet_same Other ms ns quiet (same_moves is) = is
 quiet_same Other ms ns quiet (some_moves other some there) = absurd (quiet other some)
 
-module _ (plan : Plan) (barrier : ℕ → Sight → Result Bool Raise) (Free : Status → Type 0) (Served : Type 0) (d : All Seen) (free : Free Running → AreIdle d) (us : List (TaskAt Seen)) (left : Left) (choices : List ℕ) (steps : ℕ) (serves : Served → ServesAlike plan barrier d (elsewhere us left choices steps d)) (Moved : ℕ → Type 0) (same : bares d.tasks ≡ bares us) (opens : (n : ℕ) → (opened_at plan barrier d (elsewhere us left choices steps d) n d.tasks ≡ opened_at plan barrier d (elsewhere us left choices steps d) n us) ⊎ Moved n) where
+module _ (plan : Plan) (barrier : ℕ → Sight → Result Bool Raise) (Free : Status → Type 0) (Served : Type 0) (d : All Seen) (free : Free Running → AreIdle d) (us : List (TaskAt Seen)) (left : Left) (choices : List ℕ) (steps : ℕ) (serves : Served → ServesAlike plan barrier d (elsewhere us left choices steps d)) (Moved : ℕ → Type 0) (same : bares d.tasks ≡ bares us) (opens : (n : ℕ) → (own_in plan barrier d (elsewhere us left choices steps d) n d.tasks ≡ own_in plan barrier d (elsewhere us left choices steps d) n us) ⊎ Moved n) where
   abbrev e : All Seen
   e = elsewhere us left choices steps d
 
@@ -204,10 +191,10 @@ module _ (plan : Plan) (barrier : ℕ → Sight → Result Bool Raise) (Free : S
   bare_there : (n : ℕ) → bare (own_of n d) ≡ bare (own_of n e)
   bare_there n = bare_at n d.tasks ∙ ap (λ os. slice_index_or os n nobody) same ∙ sym (bare_at n us)
 
-  opened_there : (n : ℕ) → (Moved n → ⊥) → (own_of n d).opened ≡ (own_of n e).opened
-  opened_there n unmoved = by (opens n)
+  own_there : (n : ℕ) → (Moved n → ⊥) → own_of n d ≡ own_of n e
+  own_there n unmoved = by (opens n)
     where
-      by : ((own_of n d).opened ≡ (own_of n e).opened) ⊎ Moved n → (own_of n d).opened ≡ (own_of n e).opened
+      by : (own_of n d ≡ own_of n e) ⊎ Moved n → own_of n d ≡ own_of n e
       by (inl is) = is
       by (inr moved) = absurd (unmoved moved)
 
@@ -215,14 +202,23 @@ module _ (plan : Plan) (barrier : ℕ → Sight → Result Bool Raise) (Free : S
   end_there None n = refl
   end_there (Some master) n = ap (λ b. only plan barrier b n) (closable master)
 
+  call_there : (task : Option ℕ) (entry n : ℕ) → call_moves plan barrier task entry n d ≡ call_moves plan barrier task entry n e
+  call_there None entry n = refl
+  call_there (Some task) entry n = ap (λ (o : Own). each_or_one plan barrier (alternatives_of plan barrier (open_alternatives o entry)) n) (bare_there task)
+
+  ending_there : (again : Option (ℕ × ℕ)) (n : ℕ) → (Moved n → ⊥) → ending_moves plan barrier again n d ≡ ending_moves plan barrier again n e
+  ending_there None n unmoved =
+      ap (λ (o : Own). end_moves plan barrier (master_left_by (construct_left o)) n d) (own_there n unmoved)
+      ∙ end_there (master_left_by (construct_left (own_of n e))) n
+  ending_there (Some x) n unmoved = call_there (Some x.0) x.1 n
+
   coming_there : (x : Coming) (n : ℕ) → (Moved n → ⊥) → acting_moves plan barrier x n d ≡ acting_moves plan barrier x n e
   coming_there (simply w) n unmoved = refl
   coming_there ending n unmoved =
-      ap (λ os. end_moves plan barrier (master_left_by os) n d) (construct_there (own_of n d) (own_of n e) (opened_there n unmoved))
-      ∙ end_there (master_left_by (construct_left (own_of n e))) n
+      ap (λ (o : Own). ending_moves plan barrier (again_left o.pending o.again (construct_left o)) n d) (own_there n unmoved)
+      ∙ ending_there (again_left (own_of n e).pending (own_of n e).again (construct_left (own_of n e))) n unmoved
   coming_there (selecting ones) n unmoved = refl
-  coming_there (calling None entry) n unmoved = refl
-  coming_there (calling (Some task) entry) n unmoved = ap (λ (o : Own). each_or_one plan barrier (alternatives_of plan barrier (open_alternatives o entry)) n) (bare_there task)
+  coming_there (calling task entry) n unmoved = call_there task entry n
   coming_there (starting object reading) n unmoved = refl
 
   each_some : (picked : List ℕ) (n : ℕ) → HasSome (each_or_one plan barrier picked n)
@@ -265,7 +261,7 @@ module _ (plan : Plan) (barrier : ℕ → Sight → Result Bool Raise) (Free : S
   idle_there (owner.Object m) = refl
 
   times_there : (call : Call) → call_time plan barrier call d ≡ call_time plan barrier call e
-  times_there call = ap (λ b. if is_queued call.state && b then call_time_by plan barrier call.form else []) (idle_there call.owner)
+  times_there call = ap (λ b. if is_queued call.state && not call.stays && b then call_time_by plan barrier call.form else []) (idle_there call.owner)
 
   abbrev with_own : Seen → Own → TaskAt Seen
   with_own x own = record { control = x; own = own }
@@ -285,7 +281,7 @@ module _ (plan : Plan) (barrier : ℕ → Sight → Result Bool Raise) (Free : S
 
     bound_there : (status : Status) → is_bound plan barrier status n (with_own x o) d ≡ is_bound plan barrier status n (with_own y o) e
     bound_there Created = refl
-    bound_there Running = leave_there x.coming y.coming alike
+    bound_there Running = ap (λ b. is_some o.restart || b) (leave_there x.coming y.coming alike)
     bound_there Activating = refl
     bound_there Accepting = refl
     bound_there Delaying = refl
@@ -303,10 +299,14 @@ module _ (plan : Plan) (barrier : ℕ → Sight → Result Bool Raise) (Free : S
     serving_there s status (stays same) = same_moves (ap (λ r. serve_moves plan barrier r n) (serves same s.object))
     serving_there s status (differs other) = some_moves other (serve_some (eligible plan barrier s.object d) n) (serve_some (eligible plan barrier s.object e) n)
 
+    running_there : (again : Option Restart) → AreAlike (Free Running) Other x.coming y.coming → SameTurn Other n (running plan barrier again x.coming) (running plan barrier again y.coming)
+    running_there None h = alike_there Other x.coming y.coming n unmoved h
+    running_there (Some r) h = same_moves refl
+
     usual_there : (serving : Option Serving) (status : Status) → AreAlike (Free status) Other x.coming y.coming → ServesSame Served Other serving → SameUsual serving status
     usual_there (Some s) status h same = serving_there s status same
     usual_there None Created h same = same_moves refl
-    usual_there None Running h same = alike_there Other x.coming y.coming n unmoved h
+    usual_there None Running h same = running_there o.restart h
     usual_there None Activating h same = same_moves refl
     usual_there None Accepting h same = same_moves refl
     usual_there None Delaying h same = same_moves refl
@@ -335,7 +335,7 @@ module _ (plan : Plan) (barrier : ℕ → Sight → Result Bool Raise) (Free : S
     turn_there Accepting = under_there o.abnormal
     turn_there Delaying = under_there o.abnormal
     turn_there Calling = under_there o.abnormal
-    turn_there Completed = same_moves (ap (λ os. only plan barrier (Closable (outermost os) d) n) (opened_there n unmoved) ∙ ap (λ b. only plan barrier b n) (closable (body_master (own_of n e))))
+    turn_there Completed = same_moves (ap (λ (w : Own). only plan barrier (Closable (body_master w) d) n) (own_there n unmoved) ∙ ap (λ b. only plan barrier b n) (closable (body_master (own_of n e))))
     turn_there Terminated = same_moves refl
 
   abbrev AlikeOrMoved : (Other : Type 0) (n : ℕ) (t u : TaskAt Seen) → Type 0
@@ -447,7 +447,7 @@ module _ (plan : Plan) (barrier : ℕ → Sight → Result Bool Raise) (Free : S
       by : (ended cut : Bool) → moves_by plan barrier ended cut d ≡ moves_by plan barrier ended cut same_there
       by true cut = refl
       by false true = refl
-      by false false = all_there plan barrier Free Served d free us left choices steps serves Moved (bares_alike plan barrier d (elsewhere us left choices steps d) Free Served (λ k. ⊥) Moved 0 d.tasks us alike) (λ k. opened_alike plan barrier d (elsewhere us left choices steps d) Free Served (λ k. ⊥) Moved 0 k k d.tasks us (omega arith) alike) 0 d.tasks us alike
+      by false false = all_there plan barrier Free Served d free us left choices steps serves Moved (bares_alike plan barrier d (elsewhere us left choices steps d) Free Served (λ k. ⊥) Moved 0 d.tasks us alike) (λ k. own_alike plan barrier d (elsewhere us left choices steps d) Free Served (λ k. ⊥) Moved 0 k k d.tasks us (omega arith) alike) 0 d.tasks us alike
 
 -- nothing differs of the task of a number
 module _ (plan : Plan) (barrier : ℕ → Sight → Result Bool Raise) (Free : Status → Type 0) (Served : Type 0) (Moved : ℕ → Type 0) (of : ℕ) (d : All Seen) (free : Free Running → AreIdle d) (us : List (TaskAt Seen)) (left : Left) (choices : List ℕ) (steps : ℕ) (serves : Served → ServesAlike plan barrier d (elsewhere us left choices steps d)) (alike : AlikeTasks plan barrier d (elsewhere us left choices steps d) Free Served (λ k. ¬ (k ≡ of)) Moved 0 d.tasks us) where
@@ -465,7 +465,7 @@ module _ (plan : Plan) (barrier : ℕ → Sight → Result Bool Raise) (Free : S
       by : (ended cut : Bool) → moves_by plan barrier ended cut d ≡ own_move of ∷ others → (more : List Move) × (moves_by plan barrier ended cut other_there ≡ own_move of ∷ more) × (others ≡ [] → more ≡ [])
       by true cut h = absurd cc
       by false true h = absurd cc
-      by false false h = first_there plan barrier Free Served d free us left choices steps serves Moved (bares_alike plan barrier d (elsewhere us left choices steps d) Free Served Different Moved 0 d.tasks us alike) (λ k. opened_alike plan barrier d (elsewhere us left choices steps d) Free Served Different Moved 0 k k d.tasks us (omega arith) alike) of 0 d.tasks us others alike h
+      by false false h = first_there plan barrier Free Served d free us left choices steps serves Moved (bares_alike plan barrier d (elsewhere us left choices steps d) Free Served Different Moved 0 d.tasks us alike) (λ k. own_alike plan barrier d (elsewhere us left choices steps d) Free Served Different Moved 0 k k d.tasks us (omega arith) alike) of 0 d.tasks us others alike h
 
 -- those of which they may differ have none
 module _ (plan : Plan) (barrier : ℕ → Sight → Result Bool Raise) (Free : Status → Type 0) (Served : Type 0) (Moved Other : ℕ → Type 0) (d : All Seen) (free : Free Running → AreIdle d) (us : List (TaskAt Seen)) (left : Left) (choices : List ℕ) (steps : ℕ) (serves : Served → ServesAlike plan barrier d (elsewhere us left choices steps d)) (alike : AlikeTasks plan barrier d (elsewhere us left choices steps d) Free Served Other Moved 0 d.tasks us) where
@@ -478,7 +478,7 @@ module _ (plan : Plan) (barrier : ℕ → Sight → Result Bool Raise) (Free : S
       by : (ended cut : Bool) → moves_by plan barrier ended cut d ≡ moves_by plan barrier ended cut quietly_there
       by true cut = refl
       by false true = refl
-      by false false = quiet_there plan barrier Free Served d free us left choices steps serves Moved (bares_alike plan barrier d (elsewhere us left choices steps d) Free Served Other Moved 0 d.tasks us alike) (λ k. opened_alike plan barrier d (elsewhere us left choices steps d) Free Served Other Moved 0 k k d.tasks us (omega arith) alike) Other 0 d.tasks us quiet alike
+      by false false = quiet_there plan barrier Free Served d free us left choices steps serves Moved (bares_alike plan barrier d (elsewhere us left choices steps d) Free Served Other Moved 0 d.tasks us alike) (λ k. own_alike plan barrier d (elsewhere us left choices steps d) Free Served Other Moved 0 k k d.tasks us (omega arith) alike) Other 0 d.tasks us quiet alike
 
   pub task_quiet : (n : ℕ) (t v : TaskAt Seen) → (Other n → HasSome (turn_moves plan barrier (turn plan barrier n t d) n d) → ⊥) → AlikeTask Free Served (Other n) (Moved n) t v ⊎ (Moved n × MovedTask plan barrier d quietly_there n t v) → turn_moves plan barrier (turn plan barrier n t d) n d ≡ turn_moves plan barrier (turn plan barrier n v quietly_there) n quietly_there
-  task_quiet n t v quiet h = quiet_task plan barrier Free Served d free us left choices steps serves Moved (bares_alike plan barrier d (elsewhere us left choices steps d) Free Served Other Moved 0 d.tasks us alike) (λ k. opened_alike plan barrier d (elsewhere us left choices steps d) Free Served Other Moved 0 k k d.tasks us (omega arith) alike) (Other n) n t v quiet h
+  task_quiet n t v quiet h = quiet_task plan barrier Free Served d free us left choices steps serves Moved (bares_alike plan barrier d (elsewhere us left choices steps d) Free Served Other Moved 0 d.tasks us alike) (λ k. own_alike plan barrier d (elsewhere us left choices steps d) Free Served Other Moved 0 k k d.tasks us (omega arith) alike) (Other n) n t v quiet h

@@ -5,6 +5,7 @@ use Rattle.std.proofs.Common.{◌≡◌, ◌<◌, ◌+◌, ◌⊎◌, inl, inr, 
 use Rattle.std.proofs.lemmas.Option.{same_Some}
 use Rattle.aud_typed.specs.Tree.{Plan}
 use Rattle.aud_meaning.specs.declared.state.Move.{Move}
+use Rattle.aud_meaning.specs.declared.state.Restart.{Restart}
 use Rattle.aud_meaning.specs.declared.state.Serving.{Serving}
 use Rattle.aud_meaning.specs.declared.state.Status.{Status}
 use Rattle.aud_meaning.specs.declared.state.Status.TheVariants.{Created, Running, Activating, Accepting, Delaying, Calling, Completed, Terminated}
@@ -58,19 +59,20 @@ some_is (m ∷ ms) h = refl
 
 -- whether a task is plain
 plainness : (own : Own) → IsPlain own ⊎ (IsPlain own → ⊥)
-plainness own = by own.status own.abnormal own.serving refl refl refl
+plainness own = by own.status own.abnormal own.serving own.restart refl refl refl refl
   where
-    by : (s : Status) (b : Bool) (o : Option Serving) → own.status ≡ s → own.abnormal ≡ b → own.serving ≡ o → IsPlain own ⊎ (IsPlain own → ⊥)
-    by Running false None runs normal free = inl (record { runs = runs; normal = normal; free = free })
-    by Running true o runs normal free = inr (λ plain. let wrong : true ≡ false = sym normal ∙ plain.normal in absurd cc)
-    by Running false (Some s) runs normal free = inr (λ plain. let wrong : Some s ≡ None = sym free ∙ plain.free in absurd cc)
-    by Created b o runs normal free = inr (λ plain. let wrong : Created ≡ Running = sym runs ∙ plain.runs in absurd cc)
-    by Activating b o runs normal free = inr (λ plain. let wrong : Activating ≡ Running = sym runs ∙ plain.runs in absurd cc)
-    by Accepting b o runs normal free = inr (λ plain. let wrong : Accepting ≡ Running = sym runs ∙ plain.runs in absurd cc)
-    by Delaying b o runs normal free = inr (λ plain. let wrong : Delaying ≡ Running = sym runs ∙ plain.runs in absurd cc)
-    by Calling b o runs normal free = inr (λ plain. let wrong : Calling ≡ Running = sym runs ∙ plain.runs in absurd cc)
-    by Completed b o runs normal free = inr (λ plain. let wrong : Completed ≡ Running = sym runs ∙ plain.runs in absurd cc)
-    by Terminated b o runs normal free = inr (λ plain. let wrong : Terminated ≡ Running = sym runs ∙ plain.runs in absurd cc)
+    by : (s : Status) (b : Bool) (o : Option Serving) (r : Option Restart) → own.status ≡ s → own.abnormal ≡ b → own.serving ≡ o → own.restart ≡ r → IsPlain own ⊎ (IsPlain own → ⊥)
+    by Running false None None runs normal free settled = inl (record { runs = runs; normal = normal; free = free; settled = settled })
+    by Running false None (Some r) runs normal free settled = inr (λ plain. let wrong : Some r ≡ None = sym settled ∙ plain.settled in absurd cc)
+    by Running true o r runs normal free settled = inr (λ plain. let wrong : true ≡ false = sym normal ∙ plain.normal in absurd cc)
+    by Running false (Some s) r runs normal free settled = inr (λ plain. let wrong : Some s ≡ None = sym free ∙ plain.free in absurd cc)
+    by Created b o r runs normal free settled = inr (λ plain. let wrong : Created ≡ Running = sym runs ∙ plain.runs in absurd cc)
+    by Activating b o r runs normal free settled = inr (λ plain. let wrong : Activating ≡ Running = sym runs ∙ plain.runs in absurd cc)
+    by Accepting b o r runs normal free settled = inr (λ plain. let wrong : Accepting ≡ Running = sym runs ∙ plain.runs in absurd cc)
+    by Delaying b o r runs normal free settled = inr (λ plain. let wrong : Delaying ≡ Running = sym runs ∙ plain.runs in absurd cc)
+    by Calling b o r runs normal free settled = inr (λ plain. let wrong : Calling ≡ Running = sym runs ∙ plain.runs in absurd cc)
+    by Completed b o r runs normal free settled = inr (λ plain. let wrong : Completed ≡ Running = sym runs ∙ plain.runs in absurd cc)
+    by Terminated b o r runs normal free settled = inr (λ plain. let wrong : Terminated ≡ Running = sym runs ∙ plain.runs in absurd cc)
 
 pub own_at : (ts : List (TaskAt Spot)) (n : ℕ) (t : TaskAt Spot) → slice_get ts n ≡ Some t → slice_index_or (owns ts) n nobody ≡ t.own
 own_at [] n t at = absurd cc

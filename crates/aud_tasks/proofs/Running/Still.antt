@@ -72,6 +72,8 @@ module _ (Free Other : Type 0) (other : Other) (plan : Plan) (s r : Sight) where
   last_alike (Concerns (among.Operation v unit) next) x y (inr free) = differs free
   last_alike (Concerns among.Delay next) x y h = tt
   last_alike (Concerns among.Abort next) x y h = tt
+  last_alike (Concerns (among.RequeueTask again way) next) x y h = tt
+  last_alike (Concerns (among.RequeueObject v again way) next) x y h = tt
   last_alike (Concerns (among.Accept entry region body) next) x y h = tt
   last_alike (Concerns (among.Select has_else own offers) next) x y h = differs other
   last_alike (Continues f behind inside) x y h = tt
@@ -109,7 +111,7 @@ still_no_start plan code plain s r pending t none =
 -- a task stays plain where one stands elsewhere
 pub plain_there : (p : Part Spot) (m k : ℕ) (ts : List (TaskAt Spot)) → IsPlain (slice_index_or (owns ts) k nobody) → IsPlain (slice_index_or (owns (changed m (stands_so p) ts)) k nobody)
 plain_there p m k [] h = h
-plain_there p zero zero (t ∷ ts) h = record { runs = h.runs; normal = h.normal; free = h.free }
+plain_there p zero zero (t ∷ ts) h = record { runs = h.runs; normal = h.normal; free = h.free; settled = h.settled }
 plain_there p zero (suc k) (t ∷ ts) h = h
 plain_there p (suc m) zero (t ∷ ts) h = h
 plain_there p (suc m) (suc k) (t ∷ ts) h = plain_there p m k ts h

@@ -117,6 +117,8 @@ module _ (loops : ℕ) (at : Pos) (s : Scene) (raise : Raise) where
   raised_in_part (Concerns (among.Operation v unit) next) is = cc
   raised_in_part (Concerns among.Delay next) is = cc
   raised_in_part (Concerns among.Abort next) is = cc
+  raised_in_part (Concerns (among.RequeueTask again way) next) is = cc
+  raised_in_part (Concerns (among.RequeueObject v again way) next) is = cc
   raised_in_part (Concerns (among.Accept entry region body) next) is = cc
   raised_in_part (Concerns (among.Select has_else own offers) next) is = cc
   raised_in_part (Continues f behind inside) is = cc
@@ -150,6 +152,8 @@ module _ (loops : ℕ) (at : Pos) (s : Scene) (raise : Raise) where
   raised_here (Concerns (among.Operation v unit) next) is other = refl
   raised_here (Concerns among.Delay next) is other = refl
   raised_here (Concerns among.Abort next) is other = refl
+  raised_here (Concerns (among.RequeueTask again way) next) is other = refl
+  raised_here (Concerns (among.RequeueObject v again way) next) is other = refl
   raised_here (Concerns (among.Accept entry region body) next) is other = refl
   raised_here (Concerns (among.Select has_else own offers) next) is other = refl
   raised_here (Continues f behind inside) is other = cc

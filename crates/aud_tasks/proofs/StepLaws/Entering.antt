@@ -7,26 +7,26 @@ use Rattle.aud_text.specs.declared.raise.Raise.{Raise}
 use Rattle.aud_typed.specs.Tree.{Plan}
 use Rattle.aud_meaning.specs.declared.state.Owner.TheVariants as owner
 use Rattle.aud_meaning.specs.Configuration.{All, Call}
-use Rattle.aud_meaning.specs.Control.{Scene, calls_entry, declares_object}
+use Rattle.aud_meaning.specs.Control.{Scene, calls_entry, declares_object, requeues}
 use Rattle.aud_meaning.specs.Evaluation.{Sight}
 use Rattle.aud_meaning.specs.Orders.{Orders}
 use Rattle.aud_meaning.specs.Step.{call_record, done, object_declared}
 use Rattle.aud_meaning.specs.Tasks as effect
 use Rattle.aud_code.specs.declared.line.Among.{Among}
-use Rattle.aud_code.specs.Eval.{asked_end, called_with, with_cells, with_one}
+use Rattle.aud_code.specs.Eval.{again_on, asked_end, called_with, with_cells, with_one}
 use Rattle.aud_code.specs.Flat.{Flat}
-use Rattle.aud_code.specs.Instruction.{CallKind, CallTask, DeclareObject, Operands}
-use Rattle.aud_code.specs.Places.{Spot}
+use Rattle.aud_code.specs.Instruction.{CallKind, CallTask, DeclareObject, Operands, RequeueTask}
+use Rattle.aud_code.specs.Places.{loops_of, Spot}
 use Rattle.aud_code.specs.Sound.{Counts, Takes, EndingFine, counts_of, is_some}
-use Rattle.aud_code.specs.View.{plain_among}
+use Rattle.aud_code.specs.View.{plain_among, way_beside}
 use Rattle.aud_expr.specs.Operands.{own_cells}
 use Rattle.aud_state.specs.Fast.{scene}
 use Rattle.aud_tasks.specs.Acting.{DoesAsked}
 
 -- what is done of an ending that is known
 pub as_among : (plan : Plan) (code : Flat) (limits : Limits) (alternative : Option ℕ) (n : ℕ) (at : Pos) (o : Operands) (old new : All Spot) (a k : Among) → a ≡ k →
-    DoesAsked plan code limits alternative n (asked_end (plain_among k) 0 at (scene n old) o) old new → DoesAsked plan code limits alternative n (asked_end (plain_among a) 0 at (scene n old) o) old new
-as_among plan code limits alternative n at o old new a k is h = subst (λ (m : Among). DoesAsked plan code limits alternative n (asked_end (plain_among m) 0 at (scene n old) o) old new) (sym is) h
+    DoesAsked plan code limits alternative n (asked_end (plain_among k) (loops_of (way_beside k)) at (scene n old) o) old new → DoesAsked plan code limits alternative n (asked_end (plain_among a) (loops_of (way_beside a)) at (scene n old) o) old new
+as_among plan code limits alternative n at o old new a k is h = subst (λ (m : Among). DoesAsked plan code limits alternative n (asked_end (plain_among m) (loops_of (way_beside m)) at (scene n old) o) old new) (sym is) h
 
 -- the step of a call that is made
 pub makes : {C : Type 0} (go : Orders C) (plan : Plan) (barrier : ℕ → Sight → Result Bool Raise) (limits : Limits) (alternative : Option ℕ) (n entry : ℕ) (kind : CallKind) (at : Pos) (s : Scene) (o : Operands) (task : ℕ) (call : Call) (c : All C) →
@@ -47,6 +47,23 @@ is_named entry kind c fine = by c.names fine
     by : (n : ℕ) → Takes n (λ m. Unit {0}) → 1 ≤ n
     by zero h = absurd h
     by (suc n) h = omega arith
+
+-- so it is before a requeue
+pub requeue_named : (entry : ℕ) (formals abort : Bool) (c : Counts) → EndingFine (RequeueTask entry formals abort) c → 1 ≤ c.names
+requeue_named entry formals abort c fine = by c.names fine
+  where
+    by : (n : ℕ) → Takes n (λ m. Unit {0}) → 1 ≤ n
+    by zero h = absurd h
+    by (suc n) h = omega arith
+
+-- the step of a requeue that names its task
+pub requeues_so : (at : Pos) (loops entry : ℕ) (formals abort : Bool) (s : Scene) (o : Operands) (task : ℕ) → 1 ≤ length o.names → task ≡ get_or o.names 0 0 →
+    requeues loops (again_on (owner.Task task) entry formals abort at) ≡ asked_end (RequeueTask entry formals abort) loops at s o
+requeues_so at loops entry formals abort s o task there is = by o.names there is
+  where
+    by : (names : List ℕ) → 1 ≤ length names → task ≡ get_or names 0 0 → requeues loops (again_on (owner.Task task) entry formals abort at) ≡ with_one names (λ n. requeues loops (again_on (owner.Task n) entry formals abort at))
+    by [] there is = absurd (omega (arith, there))
+    by (x ∷ xs) there is = ap (λ n. requeues loops (again_on (owner.Task n) entry formals abort at)) is
 
 -- the step of an object's declaration
 pub declares_so : {C : Type 0} (go : Orders C) (plan : Plan) (barrier : ℕ → Sight → Result Bool Raise) (limits : Limits) (alternative : Option ℕ) (n declaration : ℕ) (at : Pos) (s : Scene) (o : Operands) (c : All C) →

@@ -30,36 +30,36 @@ module _ {C : Type 0} where
 
 module _ {C : Type 0} (go : Orders C) (plan : Plan) (barrier : ℕ → Sight → Result Bool Raise) where
   -- what the end of the innermost construct is, by what it was opened for
-  module _ (p : Option Pending) (n : ℕ) (c : All C) (o : Open) (saved : List ℕ) (backs : List Back) (outer : List Opened) (e : (out_of_loops (own_of n c)).opened ≡ plain_open o saved backs ∷ outer) where
-    ends_so : (u : Purpose) → o.purpose ≡ u → effect.at_end_by go plan barrier (plain_purpose u backs) p (plain_open o saved backs) n c ≡ effect.at_end go plan barrier p n c
-    ends_so u is = ap (λ v. effect.at_end_by go plan barrier (plain_purpose v backs) p (plain_open o saved backs) n c) (sym is) ∙ ap (λ os. effect.at_end_of go plan barrier os p n c) (sym e)
+  module _ (alternative : Option ℕ) (p : Option Pending) (n : ℕ) (c : All C) (o : Open) (saved : List ℕ) (backs : List Back) (outer : List Opened) (e : (out_of_loops (own_of n c)).opened ≡ plain_open o saved backs ∷ outer) where
+    ends_so : (u : Purpose) → o.purpose ≡ u → effect.at_end_by go plan barrier alternative (plain_purpose u backs) p (plain_open o saved backs) n c ≡ effect.at_end go plan barrier alternative p n c
+    ends_so u is = ap (λ v. effect.at_end_by go plan barrier alternative (plain_purpose v backs) p (plain_open o saved backs) n c) (sym is) ∙ ap (λ os. effect.at_end_of go plan barrier alternative os p n c) (sym e)
 
-    pub at_end_body : o.purpose ≡ Body → effect.completes go plan barrier (exception_of p) n c ≡ effect.at_end go plan barrier p n c
+    pub at_end_body : o.purpose ≡ Body → effect.completes go plan barrier (exception_of p) n c ≡ effect.at_end go plan barrier alternative p n c
     at_end_body is = ends_so Body is
 
-    pub at_end_block : o.purpose ≡ Block → effect.at_block_end go plan barrier p (plain_open o saved backs) n (on_own n out_of_loops c) ≡ effect.at_end go plan barrier p n c
+    pub at_end_block : o.purpose ≡ Block → effect.at_block_end go plan barrier p (plain_open o saved backs) n (on_own n out_of_loops c) ≡ effect.at_end go plan barrier alternative p n c
     at_end_block is = ends_so Block is
 
-    pub at_end_loop : o.purpose ≡ Loop → c ≡ effect.at_end go plan barrier p n c
+    pub at_end_loop : o.purpose ≡ Loop → c ≡ effect.at_end go plan barrier alternative p n c
     at_end_loop is = ends_so Loop is
 
-    pub at_end_accept : (call : ℕ) → o.purpose ≡ Accept call → effect.at_accept_end go plan barrier p call (plain_open o saved backs) n (on_own n out_of_loops c) ≡ effect.at_end go plan barrier p n c
+    pub at_end_accept : (call : ℕ) → o.purpose ≡ Accept call → effect.at_accept_end go plan barrier alternative p call (plain_open o saved backs) n (on_own n out_of_loops c) ≡ effect.at_end go plan barrier alternative p n c
     at_end_accept call is = ends_so (Accept call) is
 
     pub at_end_procedure : (level : ℕ) (r : Returns) → o.purpose ≡ Procedure level r →
-        effect.at_procedure_end go plan barrier p (returning_by r (innermost_backs (out_of_loops (own_of n c)).opened)) (plain_open o saved backs) n (on_own n out_of_loops c) ≡ effect.at_end go plan barrier p n c
+        effect.at_procedure_end go plan barrier p (returning_by r (innermost_backs (out_of_loops (own_of n c)).opened)) (plain_open o saved backs) n (on_own n out_of_loops c) ≡ effect.at_end go plan barrier alternative p n c
     at_end_procedure level r is =
         ap (λ bs. effect.at_procedure_end go plan barrier p (returning_by r bs) (plain_open o saved backs) n (on_own n out_of_loops c)) (ap innermost_backs e ∙ ap (λ v. purpose_backs (plain_purpose v backs)) is)
         ∙ ends_so (Procedure level r) is
 
     pub at_end_operation : (object : ℕ) (r : Returns) → o.purpose ≡ Operation object r →
-        effect.at_operation_end go plan barrier p object (returning_by r (innermost_backs (out_of_loops (own_of n c)).opened)) (plain_open o saved backs) n (on_own n out_of_loops c) ≡ effect.at_end go plan barrier p n c
+        effect.at_operation_end go plan barrier p object (returning_by r (innermost_backs (out_of_loops (own_of n c)).opened)) (plain_open o saved backs) n (on_own n out_of_loops c) ≡ effect.at_end go plan barrier alternative p n c
     at_end_operation object r is =
         ap (λ bs. effect.at_operation_end go plan barrier p object (returning_by r bs) (plain_open o saved backs) n (on_own n out_of_loops c)) (ap innermost_backs e ∙ ap (λ v. purpose_backs (plain_purpose v backs)) is)
         ∙ ends_so (Operation object r) is
 
     pub at_end_entry : (object call : ℕ) (served : Bool) (resumed : Resumed) → o.purpose ≡ Entry object call served resumed →
-        effect.at_entry_end go plan barrier p object call resumed (plain_open o saved backs) n (on_own n out_of_loops c) ≡ effect.at_end go plan barrier p n c
+        effect.at_entry_end go plan barrier p object call resumed (plain_open o saved backs) n (on_own n out_of_loops c) ≡ effect.at_end go plan barrier alternative p n c
     at_end_entry object call served resumed is = ends_so (Entry object call served resumed) is
 
   -- a block's frame is left

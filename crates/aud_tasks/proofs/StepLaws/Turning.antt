@@ -7,13 +7,13 @@ use Rattle.aud_meaning.specs.declared.state.Status.TheVariants.{Running}
 use Rattle.aud_meaning.specs.Configuration.{Own, TaskAt, All}
 use Rattle.aud_meaning.specs.Control.{Seen}
 use Rattle.aud_meaning.specs.Parts.{own_of}
-use Rattle.aud_meaning.specs.Run.{at_once, seen, turn_by, under_way, usual}
+use Rattle.aud_meaning.specs.Run.{at_once, running, seen, turn_by, under_way, usual}
 use Rattle.aud_code.specs.Places.{Spot}
 use Rattle.aud_code.specs.Flat.{Flat, barrier_at, flat_controls}
 use Rattle.aud_state.specs.Reads.{IsPlain}
 use Rattle.aud_tasks.specs.declared.turn.Turn.TheVariants.{Acting}
 use Rattle.aud_abort.specs.Deferring.{deferred_in}
-use Rattle.aud_tasks.specs.Turning.{seen_in, turn_in, turned, usual_in}
+use Rattle.aud_tasks.specs.Turning.{coming_in, seen_in, turn_in, turned, usual_in}
 use Rattle.aud_tasks.proofs.ViewLaws.Seen.{turn_law}
 
 module _ (plan : Plan) (code : Flat) (n : ℕ) (c : All Spot) where
@@ -42,6 +42,6 @@ module _ (plan : Plan) (code : Flat) (n : ℕ) (c : All Spot) where
   pub usual_normal : o.abnormal ≡ false → under_way plan (barrier_at code) o.abnormal n t d ≡ usual_in plan code n c
   usual_normal normal = ap (λ b. under_way plan (barrier_at code) b n t d) normal
 
-  -- one that runs, is not abnormal and services nothing acts
+  -- one that runs, is not abnormal, services nothing and makes no call again acts
   pub turn_plain : IsPlain o → turn_in plan code n c ≡ turned plan code n c Acting
-  turn_plain plain = turn_as Running plain.runs ∙ usual_normal plain.normal ∙ usual_as None Running plain.free plain.runs
+  turn_plain plain = turn_as Running plain.runs ∙ usual_normal plain.normal ∙ usual_as None Running plain.free plain.runs ∙ ap (λ r. running plan (barrier_at code) r (coming_in plan code n c)) plain.settled

@@ -19,7 +19,7 @@ use Rattle.aud_meaning.specs.Run.{seen, turn_moves}
 use Rattle.aud_code.specs.Places.{Spot}
 use Rattle.aud_code.specs.Flat.{Flat, barrier_at, flat_controls}
 use Rattle.aud_tasks.specs.declared.turn.Turn.{Turn}
-use Rattle.aud_tasks.specs.declared.turn.Turn.TheVariants.{Acting, Cancelling, Closing, Completing, Expiring, Resting, Serving, Withdrawing}
+use Rattle.aud_tasks.specs.declared.turn.Turn.TheVariants.{Acting, Cancelling, Closing, Completing, Expiring, Resting, Restarting, Serving, Withdrawing}
 use Rattle.aud_tasks.specs.Moving.{moves_of}
 use Rattle.aud_tasks.specs.Shown.{status_if, status_in, step_in, turn_seen}
 use Rattle.aud_tasks.specs.Turning.{seen_in, turned, turn_in}
@@ -91,6 +91,7 @@ module _ (plan : Plan) (code : Flat) (n : ℕ) (c : All Spot) where
   leaves_not Completing not = refl
   leaves_not (Withdrawing object) not = refl
   leaves_not (Serving servicing) not = refl
+  leaves_not (Restarting restart) not = refl
   leaves_not Expiring not = refl
   leaves_not Cancelling not = refl
   leaves_not Acting not = absurd (not refl)

@@ -22,8 +22,9 @@ use Rattle.aud_typed.specs.declared.program.CallForm.TheVariants as form
 use Rattle.aud_typed.specs.declared.program.Calling.{Calling}
 use Rattle.aud_typed.specs.declared.program.Callee.{Callee}
 use Rattle.aud_typed.specs.declared.program.Callee.TheVariants as callee
+use Rattle.aud_typed.specs.declared.program.Requeue as requeue
 use Rattle.aud_typed.specs.declared.program.TextExpression.{TextExpression, Literal, Image, ImageTruth, Join', NewLine, Row_of-TextExpression, end_of-TextExpression, more_of-TextExpression}
-use Rattle.aud_typed.specs.declared.program.Statement.{Statement, Declare, DeclareArray, DeclareTasks, DeclareObject, Activated, Null, Assign, Put, If', While', Loop', For', Exit, Raise, RaiseAgain, Block', Return, ReturnValue, ProcedureCall, OwnEntryCall, OperationCall, EntryCall', Delay, Accept', Select', Abort, Row_of-Statement, end_of-Statement, more_of-Statement}
+use Rattle.aud_typed.specs.declared.program.Statement.{Statement, Declare, DeclareArray, DeclareTasks, DeclareObject, Activated, Null, Assign, Put, If', While', Loop', For', Exit, Raise, RaiseAgain, Block', Return, ReturnValue, ProcedureCall, OwnEntryCall, OperationCall, EntryCall', Delay, Accept', Select', Abort, Requeue, Row_of-Statement, end_of-Statement, more_of-Statement}
 use Rattle.aud_typed.specs.declared.program.Tasks.{Tasks}
 use Rattle.aud_typed.specs.declared.program.IfStatement.{IfStatement, IfStatement', out-IfStatement, Row_of-Arm, end_of-Arm, more_of-Arm}
 use Rattle.aud_typed.specs.declared.program.Arm.{Arm}
@@ -135,6 +136,9 @@ plain_callee (callee.Object v) = tree.of_object v
 abbrev pub plain_call : Callee → ℕ → List Argument → CallForm → tree.EntryCall
 plain_call called entry arguments form = record { callee = plain_callee called; entry = entry; arguments = plain_arguments arguments; form = plain_form form }
 
+abbrev pub plain_requeue : requeue.Requeue → tree.Requeue
+plain_requeue r = record { callee = plain_callee r.callee; entry = r.entry; with_formals = r.with_formals; with_abort = r.with_abort }
+
 abbrev pub plain_values : List ValueExpression → List tree.ValueExpression
 plain_values es = map plain_value es
 
@@ -185,6 +189,7 @@ abbrev mutual
   plain_statement (Accept' _ s) = plain_accept s
   plain_statement (Select' _ at _ alternatives _ otherwise) = tree.select at (plain_alternatives alternatives) (part_of (plain_row otherwise))
   plain_statement (Abort at ts) = tree.abort at (plain_task_names ts.items)
+  plain_statement (Requeue at r) = tree.requeue at (plain_requeue r.value)
 
   pub plain_row : {n : _} → Row_of-Statement n → List tree.Statement
   plain_row end_of-Statement = []

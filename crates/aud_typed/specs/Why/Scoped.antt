@@ -7,7 +7,7 @@ use Rattle.aud_typed.specs.declared.program.Variable.{Variable}
 use Rattle.aud_typed.specs.declared.program.ArrayAt.{ArrayAt}
 use Rattle.aud_typed.specs.declared.program.Exception.{Exception}
 use Rattle.aud_typed.specs.declared.program.Exception.TheVariants.{Predefined, Declared}
-use Rattle.aud_typed.specs.Tree.{Argument, by_value, by_copy, Calling, UnitPlan, TaskPlan, ObjectPlan, EntryPlan, IntegerExpression, number, variable, element, unary, binary, count, TaskName, single, indexed, DelayExpression, milliseconds, seconds, CallForm, plainly, conditionally, timed, Callee, of_task, of_object, EntryCall, BooleanExpression, truth, stored, negation, relation, comparison, logical, and_then, or_else, callable, terminated, ValueExpression, whole, boolean, Reference, scalar, component, TextExpression, literal, image, image_truth, join, new_line, Tasks, Statement, sequence, declare, declare_array, declare_tasks, declare_object, activated, activate, null, assign, put, if_then, plain_loop, while_loop, for_loop, exit, return, return_value, raising, raising_again, block, procedure_call, own_entry_call, operation_call, entry_call, delay, accept, select, abort, Doing, without_do, with_do, Alternatives, no_alternatives, accepting, delaying, terminating, Part, nothing, some, Handlers, no_handlers, handler, Body, body, Shown, as_whole, as_truth, as_wholes, as_truths, hidden, Named, Plan, Program}
+use Rattle.aud_typed.specs.Tree.{Argument, by_value, by_copy, Calling, UnitPlan, TaskPlan, ObjectPlan, EntryPlan, IntegerExpression, number, variable, element, unary, binary, count, TaskName, single, indexed, DelayExpression, milliseconds, seconds, CallForm, plainly, conditionally, timed, Callee, of_task, of_object, EntryCall, BooleanExpression, truth, stored, negation, relation, comparison, logical, and_then, or_else, callable, terminated, ValueExpression, whole, boolean, Reference, scalar, component, TextExpression, literal, image, image_truth, join, new_line, Tasks, Statement, sequence, declare, declare_array, declare_tasks, declare_object, activated, activate, null, assign, put, if_then, plain_loop, while_loop, for_loop, exit, return, return_value, raising, raising_again, block, procedure_call, own_entry_call, operation_call, entry_call, delay, accept, select, abort, requeue, Requeue, Doing, without_do, with_do, Alternatives, no_alternatives, accepting, delaying, terminating, Part, nothing, some, Handlers, no_handlers, handler, Body, body, Shown, as_whole, as_truth, as_wholes, as_truths, hidden, Named, Plan, Program}
 
 -- how many names of an open frame are elaborated, and how many cells they have
 pub record Elaborated : Type 0 where
@@ -259,6 +259,10 @@ module _ (plan : Plan) (entries : List Entry) where
   abbrev pub EntryCallScoped : EntryCall → Scope → Type 0
   EntryCallScoped c scope = (c.entry < length plan.entries) × CalleeScoped c.callee scope × ArgumentsScoped c.arguments scope × FormScoped c.form scope × BodyAround c.callee c.entry scope
 
+  -- to an entry that is there
+  abbrev pub RequeueScoped : Requeue → Scope → Type 0
+  RequeueScoped r scope = (r.entry < length plan.entries) × CalleeScoped r.callee scope × BodyAround r.callee r.entry scope
+
   abbrev mutual
     pub StatementScoped : Statement → Scope → Type 0
     StatementScoped (sequence a b) scope = StatementScoped a scope × StatementScoped b (scope_after a scope)
@@ -291,6 +295,7 @@ module _ (plan : Plan) (entries : List Entry) where
     StatementScoped (accept at n d) scope = (n < length plan.entries) × DoingScoped d scope
     StatementScoped (select at offered p) scope = AlternativesScoped offered scope × PartScoped p scope
     StatementScoped (abort at ts) scope = AllTasksScoped ts scope
+    StatementScoped (requeue at r) scope = RequeueScoped r scope
 
     pub PartScoped : Part → Scope → Type 0
     PartScoped nothing scope = Unit {0}

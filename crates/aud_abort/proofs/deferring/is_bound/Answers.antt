@@ -1,22 +1,16 @@
 use Rattle.std.proofs.Common.{⊎_elim, sym, ◌∙◌}
 use Rattle.aud_meaning.specs.declared.state.Status.TheVariants.{Accepting, Activating, Calling, Completed, Created, Delaying, Running, Terminated}
-use Rattle.aud_meaning.specs.Parts.{own_of, sight_of}
-use Rattle.aud_abort.specs.Deferring.{coming_in}
-use Rattle.aud_abort.proofs.Bound.{bound_as, leaves_is}
+use Rattle.aud_abort.proofs.Bound.{bound_as}
 use Rattle.aud_abort.proofs.deferring.is_bound.Goals as goal
 
 pub returns-in-Running : goal.returns-in-Running
 returns-in-Running c = λ plan.
-    let code = c.args.code.now in
-    let n = c.args.n in
-    let s = c.args.state.now in
-    c.is_some.ensures
-    ∙ leaves_is (own_of n s) c.master_left.result (coming_in plan code n s) (c.master_left.ensures plan (sight_of n s))
-    ∙ sym (bound_as plan code n s Running (sym c.status.ensures ∙ c.in-Running.is))
+    c.is_leaving.ensures plan
+    ∙ sym (bound_as plan c.args.code.now c.args.n c.args.state.now Running (sym c.status.ensures ∙ c.in-Running.is))
 
 pub returns-in-Calling : goal.returns-in-Calling
 returns-in-Calling c = λ plan.
-    c.is_selected.ensures
+    c.is_bound_call.ensures
     ∙ sym (bound_as plan c.args.code.now c.args.n c.args.state.now Calling (sym c.status.ensures ∙ c.in-Calling.is))
 
 pub returns-in-Created : goal.returns-in-Created

@@ -18,7 +18,16 @@ returns-clause-region c =
     let frame = plain_region c.in_ok-region.region in
     let same : checked_formals None fs frame (plain_regions c.deref.result.now) ≡ accept_formals fs place =
     ap (λ rs. checked_formals None fs frame (plain_regions rs)) c.deref.ensures.value ∙ ap (checked_formals None fs frame) c.in_ok-regions.ensures ∙ ap (λ r. checked_formals None fs r place.regions) c.in_ok-region.ensures in
-    c.in_ok-given.ensures.1 ∙ ap (λ (x : Formals). x.region) same
+    c.in_ok-profile.ensures.1 ∙ ap (λ (x : Formals). x.region) same
+
+pub returns-clause-profile : goal.returns-clause-profile
+returns-clause-profile c =
+    let fs = map plain_formal c.args.source.now in
+    let place = c.args.scope.now in
+    let frame = plain_region c.in_ok-region.region in
+    let same : checked_formals None fs frame (plain_regions c.deref.result.now) ≡ accept_formals fs place =
+    ap (λ rs. checked_formals None fs frame (plain_regions rs)) c.deref.ensures.value ∙ ap (checked_formals None fs frame) c.in_ok-regions.ensures ∙ ap (λ r. checked_formals None fs r place.regions) c.in_ok-region.ensures in
+    c.in_ok-profile.ensures.2 ∙ ap (λ (x : Formals). x.profile) same
 
 pub returns-clause-entry : goal.returns-clause-entry
 returns-clause-entry c = c.entry_meant-entry.ensures ∙ ap entry_meant c.visible-meaning.ensures
@@ -37,8 +46,8 @@ returns-clause-noted c =
     let f1 = c.formals.new.faults in
     let m = visible i.name place in
     let rest : List Fault = accepted_faults m i.at f.profile within place t in
-    let first : f1 ≡ noted c.args.faults.now f.faults = c.in_ok-given.ensures.0 ∙ ap (λ (x : Formals). noted c.args.faults.now x.faults) same in
+    let first : f1 ≡ noted c.args.faults.now f.faults = c.in_ok-profile.ensures.0 ∙ ap (λ (x : Formals). noted c.args.faults.now x.faults) same in
     let second : c.check_accepted.new.faults ≡ noted f1 rest =
     c.check_accepted.ensures ∙ ap (λ x. noted f1 (accepted_faults x i.at c.deref-2.result.now within place t)) c.visible-meaning.ensures
-    ∙ ap (λ l. noted f1 (accepted_faults m i.at l within place t)) (c.deref-2.ensures.value ∙ c.in_ok-given.ensures.2 ∙ ap (λ (x : Formals). x.profile) same) in
+    ∙ ap (λ l. noted f1 (accepted_faults m i.at l within place t)) (c.deref-2.ensures.value ∙ c.in_ok-profile.ensures.2 ∙ ap (λ (x : Formals). x.profile) same) in
     noted_then c.args.faults.now f1 c.check_accepted.new.faults f.faults rest first second

@@ -1,6 +1,6 @@
 use Rattle.std.proofs.Common.{IfOk, ◌≡◌, ◌+◌, ◌++◌, ◌∷◌, drop, map, sym, ap, subst, ◌∙◌, refl, arith, true, false}
 use Rattle.std.proofs.lemmas.List.{drop_all}
-use Rattle.std.specs.Prelude.{ℕ, Bool, List, [], Box, Vec, Option, Some, Ok, OnOk, is_some}
+use Rattle.std.specs.Prelude.{ℕ, Bool, List, [], Box, Vec, Option, Some, None, Ok, OnOk, is_some}
 use Rattle.std.specs.Global.{Global}
 use Rattle.aud_syntax.specs.declared.tree.AcceptStatement.{out-AcceptStatement}
 use Rattle.aud_syntax.specs.declared.tree.SelectStatement.{out-SelectStatement}
@@ -44,6 +44,7 @@ use Rattle.aud_check_bodies.specs.Formals.{Formals, checked_formals}
 use Rattle.aud_check_bodies.specs.Accepts.{TypedAccept, accept_formals, accept_faults, accepted, number_of, with_accepted}
 use Rattle.aud_check_bodies.specs.Delays.{delay_at, delay_faults, typed_delay}
 use Rattle.aud_check_bodies.specs.Aborts.{abort_faults, typed_abort}
+use Rattle.aud_check_bodies.specs.Requeues.{Requeuing, requeue_faults, typed_requeue}
 use Rattle.aud_check_bodies.specs.Selects.{TypedAlternative, accepts, delays, terminates, alternatives_of, form_of}
 use Rattle.aud_check_bodies.specs.Ties.DeclarativePart.{Declares, Enters}
 use Rattle.aud_names.specs.Ties.Regions.{plain_region, plain_regions, plain_place, names_in}
@@ -53,15 +54,17 @@ use Rattle.aud_check_bodies.specs.Labels.{Labels}
 use Rattle.aud_check_bodies.specs.Ties.Labels.{plain_labels}
 use Rattle.aud_typing.specs.Conditions.{condition_faults, condition, maybe_condition_faults, maybe_condition}
 use Rattle.aud_check_bodies.specs.Values.{assign_faults, typed_assign}
+use Rattle.aud_check_bodies.specs.declared.within.Leaves as left_by
 use Rattle.aud_check_bodies.specs.declared.within.Leaves.TheVariants as leaves
+use Rattle.aud_names.specs.declared.names.NamedParameter.{NamedParameter}
 use Rattle.aud_check_bodies.specs.Calls.{EntryCalled, call_faults, typed_call, entry_call_of, selected_call}
 use Rattle.aud_check_bodies.specs.Handlers.{raise_faults, typed_raise, none_chosen, all_choices_faults, is_others, choices_of}
 use Rattle.aud_check_bodies.specs.Tables.{Tables, Outcome, fine, and_then, next_region, with_region, region_kept, region_named, next_unit, unit_kept, with_unit}
-use Rattle.aud_check_bodies.specs.Statements.{Around, nothing_around, task_around, begin_of, TypedStatements, TypedArm, TypedHandler, TypedBody, begin_at, return_faults, typed_return, end_name, end_semicolon, procedure_place, procedure_formals, body_with, labelled, handling, loop_number, arm_then, arms_then, arm_of, handler_of, sequence_of, in_accept, checked_accept, checked_alternative, checked_alternatives, checked_otherwise, checked_statement, checked_loop, checked_statements, checked_others, checked_arms, checked_body, checked_handlers, checked_declaration, checked_declarations, checked_bodies, checked_operation, checked_operation_unit, operation_around, leaving_body, body_behind, checked_unit}
+use Rattle.aud_check_bodies.specs.Statements.{Around, nothing_around, task_around, begin_of, TypedStatements, TypedArm, TypedHandler, TypedBody, begin_at, return_faults, typed_return, end_name, end_semicolon, procedure_place, procedure_formals, body_with, labelled, handling, loop_number, arm_then, arms_then, arm_of, handler_of, sequence_of, in_entry, in_accept, checked_accept, checked_alternative, checked_alternatives, checked_otherwise, checked_statement, checked_loop, checked_statements, checked_others, checked_arms, checked_body, checked_handlers, checked_declaration, checked_declarations, checked_bodies, checked_operation, checked_operation_unit, operation_around, leaving_body, body_behind, checked_unit}
 use Rattle.aud_check_bodies.specs.Ties.Arms.{plain_arm, plain_arms, plain_handler, plain_handlers, plain_parts, plain_sequence, plain_items, plain_accepted, plain_alternative, plain_alternatives}
 use Rattle.aud_check_bodies.specs.declared.entry_call.EntryCalled as memory_call
 use Rattle.aud_check_bodies.specs.Ties.Passed.{plain_maybe_called}
-use Rattle.aud_check_bodies.specs.Ties.Within.{around_of, around_entering, Checks}
+use Rattle.aud_check_bodies.specs.Ties.Within.{around_of, around_entering, plain_requeuing, Checks}
 use Rattle.aud_typing.specs.Ties.Typing.{in_box, Leaves}
 use Rattle.aud_check_bodies.proofs.Walked.{Is, is_fine, is_after, is_then, checks, checks_after, checks_leaf, none_left, one_left, end_left}
 use Rattle.aud_check_bodies.proofs.Bodies.{body_left, iterated_left, loop_left, behind_left, entered_left, block_left, unit_left, procedure_left, task_left}
@@ -243,6 +246,17 @@ statement-returns-in-Abort t c =
     subst (λ z. Checks (in_box plain_typed_statement) c.abort.result c.args.faults.now c.abort.new.faults tables (checked_statement z around place tables)) (sym opened)
     (checks_leaf (in_box plain_typed_statement) c.abort.result c.args.faults.now c.abort.new.faults tables (abort_faults (plain_name x.first) (plain_names x.others.items) place) (typed_abort x.at (plain_name x.first) (plain_names x.others.items) place) c.abort.ensures)
 
+pub statement-returns-in-Requeue : goal.statement-returns-in-Requeue
+statement-returns-in-Requeue t c =
+    let around = around_of c.args.within in
+    let place = c.args.within.scope.now in
+    let tables = plain_tables c.args.tables.now in
+    let e = c.in-Requeue in
+    let x = plain_name c.deref-in-Requeue.result.now in
+    let opened : plain_statement c.args.statement.now ≡ m.requeue e.at x e.with_abort = ap plain_statement e.is ∙ ap (λ z. m.requeue e.at (plain_name z) e.with_abort) (sym c.deref-in-Requeue.ensures) in
+    subst (λ z. Checks (in_box plain_typed_statement) c.requeue.result c.args.faults.now c.requeue.new.faults tables (checked_statement z around place tables)) (sym opened)
+    (checks_leaf (in_box plain_typed_statement) c.requeue.result c.args.faults.now c.requeue.new.faults tables (requeue_faults e.at x around.requeuing place tables) (typed_requeue e.at x e.with_abort place tables) c.requeue.ensures)
+
 -- accepts
 
 pub accept-returns-in_default : goal.accept-returns-in_default
@@ -283,29 +297,32 @@ accept-returns t c =
     let region : Region = (accept_formals fs place).region in
     let source = plain_body c.in-Some.source.value in
     let parts = plain_parts c.in_ok-parts.parts in
-    let inner_around : Around = record { labels = []; in_handler = c.args.within.in_handler; leaves = leaves.Procedure; accepting = c.deref-3.result.now } in
+    let profile : List NamedParameter = (accept_formals fs place).profile in
+    let given : List ℕ → List NamedParameter → Around = λ l ps. record { labels = []; in_handler = c.args.within.in_handler; leaves = leaves.Procedure; accepting = l; requeuing = Some (record { profile = ps; object = None }) } in
+    let inner_around : Around = given c.deref-3.result.now c.deref-4.result.now in
     let inner_place : Place = c.new-among.result in
     let same_region : plain_region own ≡ region = h.region ∙ ap (λ l. (accept_formals (map plain_formal l) place).region) c.deref.ensures.value in
     let noted_head : headed ≡ noted old (accept_faults x.name fs around.accepting place tables) =
     subst (λ l. headed ≡ noted old (accept_faults x.name (map plain_formal l) around.accepting place tables)) c.deref.ensures.value h.noted in
-    let within : inner_around ≡ in_accept e around =
-    ap (λ l. record { labels = []; in_handler = c.args.within.in_handler; leaves = leaves.Procedure; accepting = l }) (c.deref-3.ensures.value ∙ c.in_ok-accepting.ensures ∙ ap (λ z. with_accepted z around.accepting) h.entry) in
+    let within : inner_around ≡ in_accept e profile around =
+    ap (λ l. given l c.deref-4.result.now) (c.deref-3.ensures.value ∙ c.in_ok-accepting.ensures ∙ ap (λ z. with_accepted z around.accepting) h.entry)
+    ∙ ap (given (with_accepted e around.accepting)) (c.deref-4.ensures.value ∙ h.profile ∙ ap (λ l. (accept_formals (map plain_formal l) place).profile) c.deref.ensures.value) in
     let inner : inner_place ≡ place_in region place.regions =
     c.new-among.ensures ∙ ap (λ rs. plain_place own rs) c.deref-2.ensures.value ∙ ap (λ r. place_in r (plain_regions outer.items)) same_region ∙ ap (place_in region) c.in_ok-outer.ensures in
     let entered : entry ≡ with_region (shown_names region.symbols) tables =
     c.in_ok-region.ensures.tables ∙ ap (λ (r : Region). with_region (shown_names r.symbols) tables) same_region in
     let ends : new ≡ noted stated (right_name_at_end x.name.name (end_name source)) =
-    c.right_name_at_end.ensures ∙ ap (λ b. noted stated (right_name_at_end x.name.name (out-Body b).name)) c.deref-5.ensures
+    c.right_name_at_end.ensures ∙ ap (λ b. noted stated (right_name_at_end x.name.name (out-Body b).name)) c.deref-6.ensures
     ∙ ap (λ z. noted stated (right_name_at_end x.name.name (end_name z))) (sym (body_open c.in-Some.source.value)) in
     let made : ℕ → ℕ → TypedAccept = λ n k. record { at = x.at; entry = n; doing = tree.with_do k (body_with [] source parts) } in
     let same : made c.number_of-entry.result c.in_ok-region.region ≡ made (number_of e) (next_region tables) =
     ap (λ n. made n c.in_ok-region.region) (c.number_of-entry.ensures ∙ ap number_of h.entry) ∙ ap (made (number_of e)) c.in_ok-region.ensures.number in
     let done : plain_done x.doing ≡ m.with_do source = ap plain_done c.in-Some.is in
     let in_body : Is headed stated u parts (checked_body source inner_around inner_place entry) =
-    subst (λ z. Is headed stated u parts (checked_body (plain_body z) inner_around inner_place entry)) c.deref-4.ensures
-    (subst (λ r. Checks plain_parts r headed stated u (checked_body (plain_body c.deref-4.result.now) inner_around inner_place entry)) c.in_ok-parts.was c.body-parts.ensures) in
+    subst (λ z. Is headed stated u parts (checked_body (plain_body z) inner_around inner_place entry)) c.deref-5.ensures
+    (subst (λ r. Checks plain_parts r headed stated u (checked_body (plain_body c.deref-5.result.now) inner_around inner_place entry)) c.in_ok-parts.was c.body-parts.ensures) in
     let all_made : IfOk c.accept_doing.result (λ a. plain_accepted a.value ≡ made c.number_of-entry.result c.in_ok-region.region) =
-    subst (λ z. IfOk c.accept_doing.result (λ a. plain_accepted a.value ≡ record { at = x.at; entry = c.number_of-entry.result; doing = tree.with_do c.in_ok-region.region (body_with [] (plain_body z) parts) })) c.deref-6.ensures c.accept_doing.ensures in
+    subst (λ z. IfOk c.accept_doing.result (λ a. plain_accepted a.value ≡ record { at = x.at; entry = c.number_of-entry.result; doing = tree.with_do c.in_ok-region.region (body_with [] (plain_body z) parts) })) c.deref-7.ensures c.accept_doing.ensures in
     let opened : plain_accept c.args.node.now ≡ m.accept x.at x.name fs (m.with_do source) = accept_open c.args.node.now ∙ ap (m.accept x.at x.name fs) done in
     subst (λ z. Checks (in_box plain_accepted) c.accept_doing.result old new u (checked_accept z around place tables)) (sym opened)
     (accept_doing_left c.accept_doing.result old headed stated new tables entry u x.at x.name fs source around inner_around place inner_place parts (made c.number_of-entry.result c.in_ok-region.region)
@@ -544,7 +561,7 @@ pub loop_body-returns : goal.loop_body-returns
 loop_body-returns t c =
     let x = c.args.node.now in
     let place = c.args.within.scope.now in
-    let among : Labels → Type 0 = λ ls. Checks (in_box plain_sequence) c.statements.result c.args.faults.now c.statements.new.faults (plain_tables c.statements.new.tables) (checked_statements (plain_statements x.statements) (record { labels = ls; in_handler = c.args.within.in_handler; leaves = c.args.within.leaves; accepting = c.args.within.accepting.now }) place (plain_tables c.args.tables.now)) in
+    let among : Labels → Type 0 = λ ls. Checks (in_box plain_sequence) c.statements.result c.args.faults.now c.statements.new.faults (plain_tables c.statements.new.tables) (checked_statements (plain_statements x.statements) (record { labels = ls; in_handler = c.args.within.in_handler; leaves = c.args.within.leaves; accepting = c.args.within.accepting.now; requeuing = plain_requeuing c.args.within.requeuing c.args.within.profile.now }) place (plain_tables c.args.tables.now)) in
     subst among c.in_ok-labels.ensures (subst (λ l. among (plain_labels l)) c.deref.ensures.value c.statements.ensures)
 
 pub loop_statement-returns-in_ok-body-in-Forever : goal.loop_statement-returns-in_ok-body-in-Forever
@@ -680,8 +697,8 @@ block_statement-returns t c =
     (subst (λ rs. Enters named declared rs part (next_region tables) entry (own (plain_declarations c.deref-3.result.now) (plain_place region rs))) c.deref-4.ensures.value c.in_ok-part.ensures) in
     let stated : Is declared new u body (body_behind false (plain_items part.elaborations) source behind (plain_place part.region outer.items) entry) =
     subst (λ rs. Is declared new u body (body_behind false (plain_items part.elaborations) source behind (plain_place part.region rs) entry)) c.deref.ensures.value
-    (subst (λ ls. Is declared new u body (body_behind false (plain_items part.elaborations) source (record { labels = ls; in_handler = c.args.within.in_handler; leaves = c.args.within.leaves; accepting = c.args.within.accepting.now }) (plain_place part.region c.deref.result.now) entry)) labels
-    (subst (λ r. Checks (in_box plain_typed_body) r declared new u (body_behind false (plain_items part.elaborations) source (record { labels = plain_labels c.deref-2.result.now; in_handler = c.args.within.in_handler; leaves = c.args.within.leaves; accepting = c.args.within.accepting.now }) (plain_place part.region c.deref.result.now) entry)) c.in_ok-body.was c.body_behind-body.ensures)) in
+    (subst (λ ls. Is declared new u body (body_behind false (plain_items part.elaborations) source (record { labels = ls; in_handler = c.args.within.in_handler; leaves = c.args.within.leaves; accepting = c.args.within.accepting.now; requeuing = plain_requeuing c.args.within.requeuing c.args.within.profile.now }) (plain_place part.region c.deref.result.now) entry)) labels
+    (subst (λ r. Checks (in_box plain_typed_body) r declared new u (body_behind false (plain_items part.elaborations) source (record { labels = plain_labels c.deref-2.result.now; in_handler = c.args.within.in_handler; leaves = c.args.within.leaves; accepting = c.args.within.accepting.now; requeuing = plain_requeuing c.args.within.requeuing c.args.within.profile.now }) (plain_place part.region c.deref.result.now) entry)) c.in_ok-body.was c.body_behind-body.ensures)) in
     let whole = entered_left named declared new tables entry u false ds source behind (in_frame place) (plain_place part.region outer.items) (plain_items part.elaborations) body enters.0 enters.1 enters.2 enters.3 stated in
     let named_all : named ≡ noted old (right_label_at_end x.label (end_name source) (end_semicolon source)) =
     c.right_label_at_end.ensures ∙ ap (λ z. noted old (right_label_at_end x.label (end_name z) (end_semicolon z))) (sym (body_open x.body)) in
@@ -950,18 +967,24 @@ operation_body-returns t c =
     let in_it : m.Declarations → Place → Outcome Declared = λ l z. with_bodies (checked_declarations l z (region_kept entry)) in
     let enters : Enters headed shown_faults regions.items part (next_region entry) shown_tables (in_it ds own) =
     subst (λ rs. Enters headed shown_faults rs part (next_region entry) shown_tables (in_it ds (plain_place b.shape.region rs))) c.deref-2.ensures.value c.in_ok-inner.ensures in
-    let around : Around = operation_around head i fs here in
-    let left : leaving_body c.head_leaves.result ≡ around = ap leaving_body (c.head_leaves.ensures ∙ ap (λ (s : Shape). head_leaves head s.returned) still_shape) in
+    let around : Around = operation_around head i fs object here in
+    let given_profile : List NamedParameter = c.deref-4.result.now in
+    let asked : plain_requeuing c.in_entry.result given_profile ≡ in_entry head shape.profile object =
+    c.in_entry.ensures given_profile ∙ ap (λ l. in_entry head l object) (c.deref-4.ensures.value ∙ ap (λ (s : Shape). s.profile) still_shape) in
+    let given : left_by.Leaves → Option Requeuing → Around = λ l r. record (leaving_body l) { requeuing = r } in
+    let own_around : Around = given c.head_leaves.result (plain_requeuing c.in_entry.result given_profile) in
+    let left : own_around ≡ around =
+    ap (λ l. given l (plain_requeuing c.in_entry.result given_profile)) (c.head_leaves.ensures ∙ ap (λ (s : Shape). head_leaves head s.returned) still_shape) ∙ ap (given (head_leaves head shape.returned)) asked in
     let stated : Is shown_faults stated_faults u body (body_behind false (plain_items part.elaborations) source around (plain_place part.region regions.items) shown_tables) =
     subst (λ a. Is shown_faults stated_faults u body (body_behind false (plain_items part.elaborations) source a (plain_place part.region regions.items) shown_tables)) left
-    (subst (λ rs. Is shown_faults stated_faults u body (body_behind false (plain_items part.elaborations) source (leaving_body c.head_leaves.result) (plain_place part.region rs) shown_tables)) c.deref-3.ensures.value
-    (subst (λ r. Checks (in_box plain_typed_body) r shown_faults stated_faults u (body_behind false (plain_items part.elaborations) source (leaving_body c.head_leaves.result) (plain_place part.region c.deref-3.result.now) shown_tables)) c.in_ok-body.was c.body_behind-body.ensures)) in
+    (subst (λ rs. Is shown_faults stated_faults u body (body_behind false (plain_items part.elaborations) source own_around (plain_place part.region rs) shown_tables)) c.deref-3.ensures.value
+    (subst (λ r. Checks (in_box plain_typed_body) r shown_faults stated_faults u (body_behind false (plain_items part.elaborations) source own_around (plain_place part.region c.deref-3.result.now) shown_tables)) c.in_ok-body.was c.body_behind-body.ensures)) in
     let whole = entered_left headed shown_faults stated_faults entry shown_tables u false ds source around own (plain_place part.region regions.items) (plain_items part.elaborations) body enters.0 enters.1 enters.2 enters.3 stated in
     let ends : new ≡ noted stated_faults (right_name_at_end i.name (end_name source)) =
     c.right_name_at_end.ensures ∙ ap (λ z. noted stated_faults (right_name_at_end i.name (end_name z))) (sym (body_open x.body)) in
     let unit : ℕ → Bool → tree.UnitBody = λ n f. record { level = b.shape.region.level; region = n; is_function = f; at = x.at; body = body } in
-    let checked : Is headed new u made (checked_operation_unit head x.at i fs ds source here own entry) =
-    operation_unit_left headed stated_faults new entry u head x.at i fs ds source here own body made whole ends
+    let checked : Is headed new u made (checked_operation_unit head x.at i fs ds source object here own entry) =
+    operation_unit_left headed stated_faults new entry u head x.at i fs ds source object here own body made whole ends
     (c.in_ok-unit.ensures ∙ ap (λ n. unit n c.is_function.result) c.next_region-own_region.ensures ∙ ap (unit (next_region entry)) c.is_function.ensures) in
     let end = plain_tables c.put_unit.new.self in
     let put : end ≡ with_unit (operation_unit found tables) made u =

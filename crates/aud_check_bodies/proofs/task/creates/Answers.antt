@@ -1,7 +1,7 @@
 use Rattle.std.proofs.Common.{◌≡◌, false, refl, ap, sym}
 use Rattle.aud_text.specs.declared.place.Pos.{Pos}
 use Rattle.aud_typed.specs.declared.program.Tasks.{Tasks}
-use Rattle.aud_typed.specs.declared.program.Statement.{Statement, Declare, DeclareArray, DeclareTasks, DeclareObject, Activated, Null, Assign, Put, If', While', Loop', For', Exit, Raise, RaiseAgain, Block', Return, ReturnValue, ProcedureCall, OwnEntryCall, OperationCall, EntryCall', Delay, Accept', Select', Abort}
+use Rattle.aud_typed.specs.declared.program.Statement.{Statement, Declare, DeclareArray, DeclareTasks, DeclareObject, Activated, Null, Assign, Put, If', While', Loop', For', Exit, Raise, RaiseAgain, Block', Return, ReturnValue, ProcedureCall, OwnEntryCall, OperationCall, EntryCall', Delay, Accept', Select', Abort, Requeue}
 use Rattle.aud_typed.specs.Ties.View.{plain_statement}
 use Rattle.aud_typed.proofs.Opened.{if_open, block_open, accept_open}
 use Rattle.aud_check_bodies.specs.Tasks.{creates}
@@ -34,6 +34,7 @@ creates_none (Delay at e) other = refl
 creates_none (Accept' _ s) other = ap creates (accept_open s)
 creates_none (Select' _ at _ alternatives _ otherwise) other = refl
 creates_none (Abort at ts) other = refl
+creates_none (Requeue at r) other = refl
 
 pub returns-in_default : goal.returns-in_default
 returns-in_default c = sym (creates_none c.args.statement.now c.in_default.not-DeclareTasks)

@@ -170,8 +170,11 @@ statement-returns-then-is-8 t c = record { reads = hand_on _ c.args.start _ c.de
 pub statement-returns-then-is-9 : goal.statement-returns-then-is-9
 statement-returns-then-is-9 t c = record { reads = hand_on _ c.args.start _ c.select.ensures.reads (λ k ds v o. o_rule (o_other (sym c.is.ensures ∙ c.if-is.false) (o_other (sym c.is-2.ensures ∙ c.if-is-2.false) (o_other (sym c.is-3.ensures ∙ c.if-is-3.false) (o_other (sym c.is_one_of.ensures ∙ c.if-is_one_of.false) (o_other (sym c.is_one_of-2.ensures ∙ c.if-is_one_of-2.false) (o_other (sym c.is-4.ensures ∙ c.if-is-4.false) (o_other (sym c.is-5.ensures ∙ c.if-is-5.false) (o_other (sym c.is-6.ensures ∙ c.if-is-6.false) (o_other (sym c.is-7.ensures ∙ c.if-is-7.false) (o_other (sym c.is-8.ensures ∙ c.if-is-8.false) (o_this (sym c.is-9.ensures ∙ c.if-is-9.true) o)))))))))))); shorter = c.select.ensures.shorter }
 
+pub statement-returns-then-is-10 : goal.statement-returns-then-is-10
+statement-returns-then-is-10 t c = record { reads = hand_on _ c.args.start _ c.abort.ensures.reads (λ k ds v o. o_rule (o_other (sym c.is.ensures ∙ c.if-is.false) (o_other (sym c.is-2.ensures ∙ c.if-is-2.false) (o_other (sym c.is-3.ensures ∙ c.if-is-3.false) (o_other (sym c.is_one_of.ensures ∙ c.if-is_one_of.false) (o_other (sym c.is_one_of-2.ensures ∙ c.if-is_one_of-2.false) (o_other (sym c.is-4.ensures ∙ c.if-is-4.false) (o_other (sym c.is-5.ensures ∙ c.if-is-5.false) (o_other (sym c.is-6.ensures ∙ c.if-is-6.false) (o_other (sym c.is-7.ensures ∙ c.if-is-7.false) (o_other (sym c.is-8.ensures ∙ c.if-is-8.false) (o_other (sym c.is-9.ensures ∙ c.if-is-9.false) (o_this (sym c.is-10.ensures ∙ c.if-is-10.true) o))))))))))))); shorter = c.abort.ensures.shorter }
+
 pub statement-returns : goal.statement-returns
-statement-returns t c = record { reads = hand_on _ c.args.start _ c.abort.ensures.reads (λ k ds v o. o_rule (o_other (sym c.is.ensures ∙ c.if-is.false) (o_other (sym c.is-2.ensures ∙ c.if-is-2.false) (o_other (sym c.is-3.ensures ∙ c.if-is-3.false) (o_other (sym c.is_one_of.ensures ∙ c.if-is_one_of.false) (o_other (sym c.is_one_of-2.ensures ∙ c.if-is_one_of-2.false) (o_other (sym c.is-4.ensures ∙ c.if-is-4.false) (o_other (sym c.is-5.ensures ∙ c.if-is-5.false) (o_other (sym c.is-6.ensures ∙ c.if-is-6.false) (o_other (sym c.is-7.ensures ∙ c.if-is-7.false) (o_other (sym c.is-8.ensures ∙ c.if-is-8.false) (o_other (sym c.is-9.ensures ∙ c.if-is-9.false) (o_last o))))))))))))); shorter = c.abort.ensures.shorter }
+statement-returns t c = record { reads = hand_on _ c.args.start _ c.requeue.ensures.reads (λ k ds v o. o_rule (o_other (sym c.is.ensures ∙ c.if-is.false) (o_other (sym c.is-2.ensures ∙ c.if-is-2.false) (o_other (sym c.is-3.ensures ∙ c.if-is-3.false) (o_other (sym c.is_one_of.ensures ∙ c.if-is_one_of.false) (o_other (sym c.is_one_of-2.ensures ∙ c.if-is_one_of-2.false) (o_other (sym c.is-4.ensures ∙ c.if-is-4.false) (o_other (sym c.is-5.ensures ∙ c.if-is-5.false) (o_other (sym c.is-6.ensures ∙ c.if-is-6.false) (o_other (sym c.is-7.ensures ∙ c.if-is-7.false) (o_other (sym c.is-8.ensures ∙ c.if-is-8.false) (o_other (sym c.is-9.ensures ∙ c.if-is-9.false) (o_other (sym c.is-10.ensures ∙ c.if-is-10.false) (o_last o)))))))))))))); shorter = c.requeue.ensures.shorter }
 
 pub more_statements-turns-preserved : goal.more_statements-turns-preserved
 more_statements-turns-preserved t c = record { turns = turns_push c.in_ok-next.next.value c.turns.invariant.turns (sym c.is_one_of.ensures ∙ c.turns-test.true) c.in_ok-next.ensures.reads c.in_ok-all.ensures; shorter = omega (arith, c.in_ok-next.ensures.shorter, c.turns.invariant.shorter) }

@@ -6,7 +6,7 @@ use Rattle.aud_tasks.proofs.StepLaws.Stepping.{acts_so}
 use Rattle.aud_tasks.proofs.act.act.Goals as goal
 
 pub returns-in-Some-clause-does : goal.returns-in-Some-clause-does
-returns-in-Some-clause-does c = if_on_ok c.propagate.result _ _ c.propagate.ensures.does (λ h. acts_so (plain_program c.args.compiled.program.now).plan c.args.compiled.code.now c.args.compiled.limits c.args.alternative c.args.n (Some c.in-Some.pending) c.args.state.now _ (sym c.in-Some.is ∙ c.pending.ensures) (h c.args.alternative))
+returns-in-Some-clause-does c = if_on_ok c.propagate.result _ _ c.propagate.ensures.does (λ h. acts_so (plain_program c.args.compiled.program.now).plan c.args.compiled.code.now c.args.compiled.limits c.args.alternative c.args.n (Some c.in-Some.pending) c.args.state.now _ (sym c.in-Some.is ∙ c.pending.ensures) h)
 
 pub returns-in-None-clause-does : goal.returns-in-None-clause-does
 returns-in-None-clause-does c = if_ok c.execute.result _ _ c.execute.ensures.does (λ ticks h. acts_so (plain_program c.args.compiled.program.now).plan c.args.compiled.code.now c.args.compiled.limits c.args.alternative c.args.n None c.args.state.now _ (sym c.in-None.is ∙ c.pending.ensures) h)

@@ -18,7 +18,7 @@ evaluate-requires-clause-begins c = λ t there.
 pub returns-then-place-len-clause-does : goal.returns-then-place-len-clause-does
 returns-then-place-len-clause-does c = if_on_ok c.leave.result _ _ c.leave.ensures.does (λ h t there.
     let e = c.place-place.ensures t there in
-    subst (λ (l : EndLine). DoesEnd (plain_program c.args.compiled.program.now).plan c.args.compiled.code.now c.args.compiled.limits c.args.alternative c.args.n l (evaluated_at c.args.compiled.code.now t.control.place (scene c.args.n c.args.state.now)) c.args.state.now c.leave.new.state) (sym (no_end_behind c.args.compiled.code.now t.control.place (omega (arith, e)))) (h c.args.alternative))
+    subst (λ (l : EndLine). DoesEnd (plain_program c.args.compiled.program.now).plan c.args.compiled.code.now c.args.compiled.limits c.args.alternative c.args.n l (evaluated_at c.args.compiled.code.now t.control.place (scene c.args.n c.args.state.now)) c.args.state.now c.leave.new.state) (sym (no_end_behind c.args.compiled.code.now t.control.place (omega (arith, e)))) h)
 
 pub returns-clause-does : goal.returns-clause-does
 returns-clause-does c = λ t there.

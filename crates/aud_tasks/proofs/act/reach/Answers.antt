@@ -21,4 +21,4 @@ pub returns-in-Some-clause-does : goal.returns-in-Some-clause-does
 returns-in-Some-clause-does c = on_ok c.finish.result _ _ c.finish.ensures.does (λ h t there. subst (λ (l : EndLine). DoesEnd (plain_program c.args.compiled.program.now).plan c.args.compiled.code.now c.args.compiled.limits c.args.alternative c.args.n l (Reached c.args.operands.now) c.args.state.now c.finish.new.state) (ends_there c.args.compiled.code.now c.args.reached t.control.place (plain_end c.in-Some.line.now) c.in-Some.ensures.found (c.requires.reached t there)) h)
 
 pub returns-in-None-clause-does : goal.returns-in-None-clause-does
-returns-in-None-clause-does c = on_ok c.leave.result _ _ c.leave.ensures.does (λ h t there. subst (λ (l : EndLine). DoesEnd (plain_program c.args.compiled.program.now).plan c.args.compiled.code.now c.args.compiled.limits c.args.alternative c.args.n l (Reached c.args.operands.now) c.args.state.now c.leave.new.state) (sym (no_end_there c.args.compiled.code.now c.args.reached t.control.place c.in-None.ensures.missing (c.requires.reached t there))) (h c.args.alternative))
+returns-in-None-clause-does c = on_ok c.leave.result _ _ c.leave.ensures.does (λ h t there. subst (λ (l : EndLine). DoesEnd (plain_program c.args.compiled.program.now).plan c.args.compiled.code.now c.args.compiled.limits c.args.alternative c.args.n l (Reached c.args.operands.now) c.args.state.now c.leave.new.state) (sym (no_end_there c.args.compiled.code.now c.args.reached t.control.place c.in-None.ensures.missing (c.requires.reached t there))) h)

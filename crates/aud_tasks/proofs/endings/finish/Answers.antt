@@ -1,10 +1,10 @@
-use Rattle.std.proofs.Common.{sym, ◌∙◌}
+use Rattle.std.proofs.Common.{ap, sym, ◌∙◌}
 use Rattle.aud_typed.specs.Ties.View.{plain_program}
-use Rattle.aud_code.specs.Flat.{barrier_at}
+use Rattle.aud_code.specs.Flat.{barrier_at, EndLine}
 use Rattle.aud_code.specs.Instruction.{Reached}
+use Rattle.aud_code.specs.View.{exit_of}
 use Rattle.aud_state.specs.Fast.{scene}
 use Rattle.aud_tasks.proofs.StepLaws.Asked.{as_last, of_one, too_long_does}
-use Rattle.aud_tasks.proofs.Results.{on_ok}
 use Rattle.aud_tasks.proofs.endings.finish.Goals as goal
 
 pub returns-then-is_too_long-clause-does : goal.returns-then-is_too_long-clause-does
@@ -26,14 +26,17 @@ returns-in_ok-step_alone-in-Continues-clause-does c = c.in_ok-step_alone-in-Cont
 pub returns-in_ok-step_alone-in-Guards-clause-does : goal.returns-in_ok-step_alone-in-Guards-clause-does
 returns-in_ok-step_alone-in-Guards-clause-does c = c.in_ok-step_alone-in-Guards.ensures c.args.alternative
 
-pub concern-requires : goal.concern-requires
-concern-requires c = rw c.in-Concerns.is at c.requires.fine
+pub concern-requires-clause-there : goal.concern-requires-clause-there
+concern-requires-clause-there c = λ t there. sym (ap (λ (l : EndLine). l.exit) (c.requires.there t there)) ∙ ap exit_of c.in-Concerns.is
+
+pub concern-requires-clause-fine : goal.concern-requires-clause-fine
+concern-requires-clause-fine c = rw c.in-Concerns.is at c.requires.fine
 
 pub returns-in-Concerns-clause-does : goal.returns-in-Concerns-clause-does
 returns-in-Concerns-clause-does c = as_last c.concern.result (plain_program c.args.compiled.program.now).plan c.args.compiled.code.now c.args.compiled.limits c.args.alternative c.args.n c.args.end.now.at (Reached c.args.operands.now) c.args.state.now _ c.args.end.now.last _ c.in-Concerns.is c.concern.ensures.does
 
 pub returns-in-Ends-clause-does : goal.returns-in-Ends-clause-does
-returns-in-Ends-clause-does c = as_last c.leave.result (plain_program c.args.compiled.program.now).plan c.args.compiled.code.now c.args.compiled.limits c.args.alternative c.args.n c.args.end.now.at (Reached c.args.operands.now) c.args.state.now _ c.args.end.now.last _ c.in-Ends.is (on_ok c.leave.result _ _ c.leave.ensures.does (λ h. h c.args.alternative))
+returns-in-Ends-clause-does c = as_last c.leave.result (plain_program c.args.compiled.program.now).plan c.args.compiled.code.now c.args.compiled.limits c.args.alternative c.args.n c.args.end.now.at (Reached c.args.operands.now) c.args.state.now _ c.args.end.now.last _ c.in-Ends.is c.leave.ensures.does
 
 pub returns-in-Leaves-clause-does : goal.returns-in-Leaves-clause-does
-returns-in-Leaves-clause-does c = as_last c.leave-in-Leaves.result (plain_program c.args.compiled.program.now).plan c.args.compiled.code.now c.args.compiled.limits c.args.alternative c.args.n c.args.end.now.at (Reached c.args.operands.now) c.args.state.now _ c.args.end.now.last _ c.in-Leaves.is (on_ok c.leave-in-Leaves.result _ _ c.leave-in-Leaves.ensures.does (λ h. h c.args.alternative))
+returns-in-Leaves-clause-does c = as_last c.leave-in-Leaves.result (plain_program c.args.compiled.program.now).plan c.args.compiled.code.now c.args.compiled.limits c.args.alternative c.args.n c.args.end.now.at (Reached c.args.operands.now) c.args.state.now _ c.args.end.now.last _ c.in-Leaves.is c.leave-in-Leaves.ensures.does

@@ -1,4 +1,4 @@
-use Rattle.std.proofs.Common.{ℤ, List, get_or, ap, ◌∙◌}
+use Rattle.std.proofs.Common.{ℤ, List, [], false, get_or, ap, ◌∙◌}
 use Rattle.aud_typed.specs.Ties.View.{milliseconds_in, plain_program}
 use Rattle.aud_meaning.specs.declared.state.CallState.TheVariants.{Selected}
 use Rattle.aud_meaning.specs.declared.state.Form.{Form}
@@ -20,7 +20,7 @@ returns c = on_ok c.call.result _ _ c.call.ensures (λ h.
     let o = c.args.operands.now in
     let kind = plain_kind c.args.kind in
     let task = get_or c.names.result.now 0 0 in
-    let made : List ℤ → List Back → Form → Call = λ values backs form. record { caller = c.args.n; owner = owner.Task task; entry = c.args.entry; arrival = 0; values = values; backs = backs; form = form; at = c.args.at; state = Selected } in
+    let made : List ℤ → List Back → Form → Call = λ values backs form. record { caller = c.args.n; owner = owner.Task task; entry = c.args.entry; arrival = 0; values = values; unseen = []; backs = backs; form = form; stays = false; at = c.args.at; state = Selected } in
     let same =
     ap (λ v. made v c.in_ok-copy_backs.field-0.items c.in_ok-form.form) (c.in_ok-copy_values.ensures ∙ c.values.ensures)
     ∙ ap (λ b. made o.values b c.in_ok-form.form) (c.in_ok-copy_backs.ensures ∙ c.backs.ensures)

@@ -1,20 +1,11 @@
-use Rattle.std.proofs.Common.{ap, ◌∙◌}
 use Rattle.aud_typed.specs.Ties.View.{plain_program}
-use Rattle.aud_tasks.specs.Moving.{alone_if}
 use Rattle.aud_tasks.specs.Turning.{coming_in}
-use Rattle.aud_tasks.proofs.MoveLaws.Moving.{simple_moves, single_moves}
+use Rattle.aud_tasks.proofs.MoveLaws.Moving.{simple_moves}
 use Rattle.aud_tasks.proofs.Results.{if_ok}
 use Rattle.aud_tasks.proofs.moves.acting.Goals as goal
 
-pub returns-in-None : goal.returns-in-None
-returns-in-None c =
-    let plan = (plain_program c.args.compiled.program.now).plan in
-    let code = c.args.compiled.code.now in
-    let s = c.args.state.now in
-    let n = c.args.task in
-    c.one_if.ensures n s.clock
-    ∙ ap (λ b. alone_if b n) c.can_act.ensures
-    ∙ single_moves plan code s (coming_in plan code n s) n (c.in-None.ensures.none plan)
+pub unchosen-requires-clause-single : goal.unchosen-requires-clause-single
+unchosen-requires-clause-single c = c.in-None.ensures.none (plain_program c.args.compiled.program.now).plan
 
 pub choose-requires-clause-comes : goal.choose-requires-clause-comes
 choose-requires-clause-comes c = c.in-Some.ensures.some

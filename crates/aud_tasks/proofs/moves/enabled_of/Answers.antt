@@ -1,9 +1,9 @@
-use Rattle.std.proofs.Common.{ap, sym, ◌∙◌}
+use Rattle.std.proofs.Common.{ap, false, not, sym, ◌∙◌}
 use Rattle.aud_typed.specs.Ties.View.{plain_program}
-use Rattle.aud_meaning.specs.Parts.{is_idle, object_of, Closable}
+use Rattle.aud_meaning.specs.Parts.{in_the_way, is_idle, object_of, Closable}
 use Rattle.aud_meaning.specs.Run.{serve_moves}
 use Rattle.aud_code.specs.Flat.{barrier_at}
-use Rattle.aud_tasks.specs.declared.turn.Turn.TheVariants.{Acting, Cancelling, Closing, Completing, Expiring, Resting, Serving, Withdrawing}
+use Rattle.aud_tasks.specs.declared.turn.Turn.TheVariants.{Acting, Cancelling, Closing, Completing, Expiring, Resting, Restarting, Serving, Withdrawing}
 use Rattle.aud_tasks.specs.Moving.{alone_if, picked}
 use Rattle.aud_tasks.proofs.MoveLaws.Moving.{closes, eligible_seen, only_if, turn_told}
 use Rattle.aud_tasks.proofs.Results.{if_ok}
@@ -35,6 +35,18 @@ returns-in-Withdrawing c =
     ∙ ap (λ b. alone_if b n) c.is_idle.ensures
     ∙ only_if plan code (is_idle (object_of c.in-Withdrawing.object s)) n
     ∙ sym (turn_told plan code s n c.turn_of.result (Withdrawing c.in-Withdrawing.object) (c.turn_of.ensures plan) c.in-Withdrawing.is)
+
+pub returns-in-Restarting : goal.returns-in-Restarting
+returns-in-Restarting c =
+    let plan = (plain_program c.args.compiled.program.now).plan in
+    let code = c.args.compiled.code.now in
+    let s = c.args.state.now in
+    let n = c.args.task in
+    let restart = c.in-Restarting.restart in
+    c.one_if-in-Restarting.ensures n s.clock
+    ∙ ap (λ b. alone_if b n) c.may_begin.ensures
+    ∙ only_if plan code (not (in_the_way n false (object_of restart.object s))) n
+    ∙ sym (turn_told plan code s n c.turn_of.result (Restarting restart) (c.turn_of.ensures plan) c.in-Restarting.is)
 
 pub returns-in-Expiring : goal.returns-in-Expiring
 returns-in-Expiring c =

@@ -1,4 +1,4 @@
-use Rattle.std.proofs.Common.{ℕ, ℤ, List, ap, ◌∙◌}
+use Rattle.std.proofs.Common.{ℕ, ℤ, List, [], false, ap, ◌∙◌}
 use Rattle.aud_typed.specs.Ties.View.{milliseconds_in, plain_program}
 use Rattle.aud_meaning.specs.declared.state.CallState.TheVariants.{Selected}
 use Rattle.aud_meaning.specs.declared.state.Form.{Form}
@@ -18,7 +18,7 @@ returns-clause-does c = λ alternative.
     let code = c.args.compiled.code.now in
     let o = c.args.operands.now in
     let kind = plain_kind c.args.kind in
-    let made : ℕ → List ℤ → List Back → Form → Call = λ object values backs form. record { caller = c.args.n; owner = owner.Object object; entry = c.args.entry; arrival = 0; values = values; backs = backs; form = form; at = c.args.at; state = Selected } in
+    let made : ℕ → List ℤ → List Back → Form → Call = λ object values backs form. record { caller = c.args.n; owner = owner.Object object; entry = c.args.entry; arrival = 0; values = values; unseen = []; backs = backs; form = form; stays = false; at = c.args.at; state = Selected } in
     let number = c.number_of-number.result in
     let same =
     ap (λ v. made number v c.in_ok-copy_backs.field-0.items c.in_ok-form.form) (c.in_ok-copy_values.ensures ∙ c.values.ensures)

@@ -45,6 +45,12 @@ returns-in-Serving-clause-takes c = if_on_ok c.serve.result _ _ c.serve.ensures.
     h
     ∙ ap (λ (u : Turn). turn_taken (going c.args.compiled.code.now) plan (barrier_at c.args.compiled.code.now) c.args.compiled.limits (turned plan c.args.compiled.code.now c.args.taken.task c.args.state.now u) (asked_at c.args.compiled.code.now t.own.pending (scene c.args.taken.task c.args.state.now) t.control) c.args.taken c.args.state.now) (sym c.in-Serving.is))
 
+pub returns-in-Restarting-clause-takes : goal.returns-in-Restarting-clause-takes
+returns-in-Restarting-clause-takes c = if_on_ok c.start_again.result _ _ c.start_again.ensures.does (λ h t there.
+    let plan = (plain_program c.args.compiled.program.now).plan in
+    h
+    ∙ ap (λ (u : Turn). turn_taken (going c.args.compiled.code.now) plan (barrier_at c.args.compiled.code.now) c.args.compiled.limits (turned plan c.args.compiled.code.now c.args.taken.task c.args.state.now u) (asked_at c.args.compiled.code.now t.own.pending (scene c.args.taken.task c.args.state.now) t.control) c.args.taken c.args.state.now) (sym c.in-Restarting.is))
+
 pub returns-in-Acting-clause-takes : goal.returns-in-Acting-clause-takes
 returns-in-Acting-clause-takes c = if_ok c.act.result _ _ c.act.ensures.does (λ ticks h t there. h t there ∙ ap (λ (u : Turn). turn_taken (going c.args.compiled.code.now) (plain_program c.args.compiled.program.now).plan (barrier_at c.args.compiled.code.now) c.args.compiled.limits (turned (plain_program c.args.compiled.program.now).plan c.args.compiled.code.now c.args.taken.task c.args.state.now u) (asked_at c.args.compiled.code.now t.own.pending (scene c.args.taken.task c.args.state.now) t.control) c.args.taken c.args.state.now) (sym c.in-Acting.is))
 
@@ -62,3 +68,6 @@ returns-in_ok-withdraw-in-Withdrawing-clause-few c =
 
 pub returns-in-Serving-clause-few : goal.returns-in-Serving-clause-few
 returns-in-Serving-clause-few c = if_ok c.serve.result _ _ c.serve.ensures.few (λ ticks h. no_more (plain_program c.args.compiled.program.now).plan c.args.compiled.code.now ticks h)
+
+pub returns-in-Restarting-clause-few : goal.returns-in-Restarting-clause-few
+returns-in-Restarting-clause-few c = if_ok c.start_again.result _ _ c.start_again.ensures.few (λ ticks h. no_more (plain_program c.args.compiled.program.now).plan c.args.compiled.code.now ticks h)

@@ -11,6 +11,7 @@ returns-in-Some c = λ plan code.
 pub returns-in-Running : goal.returns-in-Running
 returns-in-Running c = λ plan code.
     usual_as plan code c.args.n c.args.state.now None Running (sym c.serving.ensures ∙ c.in-None.is) (sym c.status.ensures ∙ c.in-Running.is)
+    ∙ c.running.ensures plan code
 
 pub returns-in-Accepting : goal.returns-in-Accepting
 returns-in-Accepting c = λ plan code.

@@ -44,3 +44,6 @@ returns-in-Delay c = rw c.in-Delay.is (one_step (delay_code (plain_delay c.in-De
 
 pub returns-in-Abort : goal.returns-in-Abort
 returns-in-Abort c = rw c.in-Abort.is (one_step (names_code (plain_task_names c.in-Abort.tasks.items)) _ _ refl (rw c.deref-in-Abort.ensures.value at c.write_names.ensures) c.concern-in-Abort.ensures)
+
+pub returns-in-Requeue : goal.returns-in-Requeue
+returns-in-Requeue c = rw c.in-Requeue.is (rw c.deref-in-Requeue.ensures at c.write_requeue.ensures)

@@ -1,4 +1,4 @@
-use Rattle.std.proofs.Common.{ap, ◌∙◌}
+use Rattle.std.proofs.Common.{None, ap, ◌∙◌}
 use Rattle.aud_meaning.specs.Configuration.{Own}
 use Rattle.aud_meaning.proofs.Part.{closes}
 use Rattle.aud_sequential.specs.Parked.{Parked}
@@ -11,7 +11,7 @@ returns c =
     let t = c.args.self.now in
     let back = c.args.resumed in
     let come : Condition = record t.condition { status = back.status } in
-    ap (λ (p : Condition). plain_task (record t { parked = c.set_pending.new.self; condition = p })) c.come_to.ensures
-    ∙ ap (λ (p : Parked). plain_task (record t { parked = p; condition = come })) c.set_pending.ensures
-    ∙ ap (λ (p : Parked). plain_task (record t { parked = record p { pending = back.pending }; condition = come })) c.close.ensures
-    ∙ ap (λ (o : Own). record (plain_task t) { own = record o { status = back.status; pending = back.pending } }) (closes (plain_own t) t.parked.pending t.parked.stack)
+    ap (λ (p : Condition). plain_task (record t { parked = c.set_pending.new.self; condition = p; again = None })) c.come_to.ensures
+    ∙ ap (λ (p : Parked). plain_task (record t { parked = p; condition = come; again = None })) c.set_pending.ensures
+    ∙ ap (λ (p : Parked). plain_task (record t { parked = record p { pending = back.pending }; condition = come; again = None })) c.close.ensures
+    ∙ ap (λ (o : Own). record (plain_task t) { own = record o { status = back.status; pending = back.pending; again = None } }) (closes (plain_own t) t.parked.pending t.parked.stack)

@@ -1,0 +1,13 @@
+use Rattle.std.proofs.Common.{ap, ◌∙◌}
+use Rattle.aud_meaning.specs.Configuration.{All}
+use Rattle.aud_meaning.specs.Parts.{on_call}
+use Rattle.aud_meaning.specs.Tasks as effect
+use Rattle.aud_code.specs.Places.{Spot}
+use Rattle.aud_state.specs.View.{all_of, Kept}
+use Rattle.aud_state.proofs.state.State.retarget_call.Goals as goal
+
+pub returns : goal.returns
+returns c = λ go plan barrier.
+    let i = c.self.inside in
+    ap (λ (k : Kept). all_of i.tasks.items i.progress k i.objects.items) (c.in_ok-retarget.ensures go plan barrier)
+    ∙ ap (λ (s : All Spot). on_call c.args.id (effect.retargeted go plan barrier c.args.again c.args.values.items) s) c.self.view_is
