@@ -1,5 +1,5 @@
 -- In a typed program tasks are declared by declarative parts alone.
-use Rattle.std.proofs.Common.{◌≡◌, ℕ, zero, suc, ◌+◌, List, [], ◌∷◌, ◌++◌, length, map, Bool, true, false, Option, Some, None, refl, ℤ}
+use Rattle.std.proofs.Common.{ℕ, zero, suc, ◌+◌, List, [], ◌∷◌, ◌++◌, map, Bool, true, false, Option, Some, None, refl, ℤ}
 use Rattle.std.specs.Prelude.{pos, slice_set, if◌then◌else◌}
 use Rattle.aud_text.specs.declared.place.Pos.{Pos}
 use Rattle.aud_syntax.specs.declared.tree.Ident.{Ident}
@@ -26,7 +26,6 @@ use Rattle.aud_names.specs.declared.parts.PartKind.{PartKind}
 use Rattle.aud_names.specs.declared.parts.PartKind.TheVariants as part
 use Rattle.aud_names.specs.Objects.{awaited_parts}
 use Rattle.aud_names.specs.Names.{Region, Place, main_place, visible, in_frame, innermost, place_in, task_place, body_frame, is_declared, is_inside}
-use Rattle.aud_names.specs.declared.resolution.Denoted.{Denoted}
 use Rattle.aud_names.specs.Arrays.{bound_value, or_zero, cells_of}
 use Rattle.aud_names.specs.Resolution.{resolved, name_ident, last_args}
 use Rattle.aud_typing.specs.Expressions.{Typed, string, Entity, no_entity, entity, element_of, task_of, checked_arguments, checked_expression}

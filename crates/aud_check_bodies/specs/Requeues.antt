@@ -1,5 +1,5 @@
 -- Requeue statements (RM 9.5.4).
-use Rattle.std.specs.Prelude.{ℕ, nat_eq, Bool, true, false, not, ◌&&◌, ◌||◌, List, [], ◌++◌, Option, Some, None, is_some, if◌then◌else◌}
+use Rattle.std.specs.Prelude.{ℕ, nat_eq, Bool, true, false, not, ◌&&◌, List, [], ◌++◌, Option, Some, None, is_some, if◌then◌else◌}
 use Rattle.aud_text.specs.declared.place.Pos.{Pos}
 use Rattle.aud_syntax.specs.Plain.{Name}
 use Rattle.aud_typed.specs.Tree as tree
@@ -11,7 +11,6 @@ use Rattle.aud_names.specs.declared.names.NamedParameter.{NamedParameter}
 use Rattle.aud_names.specs.declared.names.Owner.{Owner}
 use Rattle.aud_names.specs.declared.names.Owner.TheVariants as owner
 use Rattle.aud_names.specs.declared.names.Owner.TheVariants.{Single, Element}
-use Rattle.aud_names.specs.declared.resolution.Denoted.{Denoted}
 use Rattle.aud_names.specs.Names.{Region, Place, declaring, are_in_accept, are_in_task}
 use Rattle.aud_names.specs.Arrays.{task_array_at}
 use Rattle.aud_names.specs.Rules.{wrong_kind_of_name, wrong_number_of_arguments, not_an_entry, same_parameters, formals_conform, requeue_in_place, in_own_object, declared_outside}

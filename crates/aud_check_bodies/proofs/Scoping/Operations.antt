@@ -16,7 +16,7 @@ use Rattle.aud_names.specs.declared.parts.Part.{Part}
 use Rattle.aud_names.specs.declared.parts.PartKind.{PartKind}
 use Rattle.aud_names.specs.declared.parts.PartKind.TheVariants as part
 use Rattle.aud_names.specs.Names as names
-use Rattle.aud_names.specs.Names.{Symbol, Region, Place}
+use Rattle.aud_names.specs.Names.{Symbol, Region}
 use Rattle.aud_names.specs.Objects as objects
 use Rattle.aud_names.specs.Objects.{own_instance, with_part, with_parts}
 use Rattle.aud_check_bodies.specs.Tables.{Tables, entry_at}

@@ -36,17 +36,16 @@ use Rattle.aud_check_bodies.specs.Delays as delays
 use Rattle.aud_check_bodies.specs.Selects as selects
 use Rattle.aud_check_bodies.specs.Handlers as handlers
 use Rattle.aud_check_bodies.specs.Statements as s
-use Rattle.aud_check_bodies.specs.Statements.{Around, nothing_around, TypedArm, TypedHandler}
+use Rattle.aud_check_bodies.specs.Statements.{TypedArm, TypedHandler}
 use Rattle.aud_check_bodies.proofs.Scoping.Names.{Known, IsCallable, IsOperation, IsEntry, IsEntryBody, OwnerScoped, MeaningScoped, VisibleScoped, Sees}
 use Rattle.aud_check_bodies.proofs.Scoping.Expressions.{TypedScoped, EntityScoped, value_scoped, whole_scoped}
 use Rattle.std.proofs.Common.{◌≡◌, ℕ, Bool, true, false, List, [], ◌∷◌, ◌++◌, length, slice_index_or, Option, Some, None, refl, sym, ◌∙◌, subst}
 use Rattle.aud_typed.specs.Why.Scoped.{Scope, AllCreatedScoped, scope_behind, all_of_table, Elaborated, Entry, StatementScoped, PartScoped, HandlersScoped, BodyScoped}
 use Rattle.aud_names.specs.declared.names.Meaning.TheVariants.{ScalarType, Literal, Object, Array, Exception, Builtin, Procedure, TaskType, Task, TaskArray}
-use Rattle.aud_names.specs.Names.{Region, Place}
+use Rattle.aud_names.specs.Names.{Place}
 use Rattle.aud_names.specs.Resolution as resolution
 use Rattle.aud_check_bodies.specs.Tables.{Tables, profile_of, entry_profile_of}
 use Rattle.aud_typing.specs.Expressions as e
-use Rattle.aud_check_bodies.specs.Statements.{Around, nothing_around, task_around}
 use Rattle.aud_check_bodies.proofs.Scoping.Names.{Known, IsCallable, VisibleScoped, Sees, Fits, regions_see, resolved_scoped}
 use Rattle.aud_check_bodies.proofs.Scoping.Expressions.{denoting_scoped, expression_scoped, arguments_scoped, prefix_scoped}
 use Rattle.aud_check_bodies.proofs.Scoping.Arguments.{reference_scoped, all_passed_scoped}

@@ -1,4 +1,4 @@
-use Rattle.std.specs.Prelude.{List, ◌++◌, map, None}
+use Rattle.std.specs.Prelude.{List, map, None}
 use Rattle.std.proofs.Common.{◌≡◌, ap, ◌∙◌}
 use Rattle.aud_syntax.specs.Ties.View.{plain_formal}
 use Rattle.aud_fault.specs.declared.fault.Fault.{Fault}

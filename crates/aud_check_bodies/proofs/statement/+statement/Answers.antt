@@ -25,7 +25,7 @@ use Rattle.aud_typed.specs.declared.program.CallForm as memory_form
 use Rattle.aud_typed.specs.declared.program.DelayExpression.{DelayExpression}
 use Rattle.aud_typed.specs.Tree as tree
 use Rattle.aud_typed.specs.Tree.{CallForm}
-use Rattle.aud_syntax.specs.Ties.View.{plain_expression, plain_name, plain_maybe, plain_parameter, plain_declarations, plain_statement, plain_statements, plain_others, arm_list, guarded_list, handler_list, plain_choices, plain_delay, plain_names, plain_abort, plain_done, plain_accept, plain_other, plain_alternative as plain_source_alternative, plain_select_statement, plain_selected_call, plain_if_statement, plain_loop_statement, plain_block_statement, plain_body, plain_formal, plain_declaration, plain_procedure, plain_task_body, plain_protected_body, operation_body_list, plain_operation_body}
+use Rattle.aud_syntax.specs.Ties.View.{plain_expression, plain_name, plain_maybe, plain_parameter, plain_declarations, plain_statement, plain_statements, plain_others, arm_list, guarded_list, handler_list, plain_choices, plain_delay, plain_names, plain_abort, plain_done, plain_accept, plain_other, plain_alternative as plain_source_alternative, plain_select_statement, plain_selected_call, plain_if_statement, plain_loop_statement, plain_block_statement, plain_body, plain_formal, plain_declaration, plain_procedure, plain_task_body, plain_protected_body, operation_body_list}
 use Rattle.aud_syntax.proofs.Opened.{operation_body_open, protected_body_open, accept_open, select_open, selected_call_open, accept_alternative_open, delay_alternative_open, or_delay_open, or_else_open, if_open, loop_open, block_open, body_open, procedure_open, task_body_open}
 use Rattle.aud_syntax.proofs.Written.{dropped}
 use Rattle.aud_typed.specs.Ties.View.{plain_statement as plain_typed_statement, plain_statements as plain_typed_statements, plain_body as plain_typed_body, plain_unit as plain_typed_unit, plain_integer, plain_boolean, plain_delay as plain_typed_delay, plain_form, statements_in}
