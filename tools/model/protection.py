@@ -117,7 +117,7 @@ class Protection:
             del protected.actions[task]
             return
         if is_open:
-            yield from self.serve(task, protected, entry, call, again.line)
+            yield from self.run_body(task, Frame("entry"), protected.bodies[entry], call, again.line)
         else:
             self.queue_again(task, call)
         yield from self.end_action(task, protected, again.line)

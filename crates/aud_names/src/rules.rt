@@ -328,8 +328,8 @@ pub fn in_own_object(good: bool, at: Pos, faults: &mut Least)
     }
 }
 
-/// The target's task or object is not declared within an accept around the requeue, nor a requeue's object in an accept within
-/// a task's body (RM 9.5.4(6), profile).
+/// The target's task or object is not declared within an accept around the requeue, nor, for a requeue in an accept, the
+/// target's object within a task's body (RM 9.5.4(6), profile).
 pub fn declared_outside(good: bool, at: Pos, faults: &mut Least)
     ensures { faults.new ≡ noted faults.old (declared_outside good at) }
 {
