@@ -20,5 +20,7 @@ pub mod BarrierRaises
 pub mod AbortInAction
 pub mod AbortOfItself
 pub mod AbortWhileQueued
+pub mod RequeueToTask
+pub mod RequeueToObject
 pub mod Stuck
 pub mod TaskInLoop

@@ -23,6 +23,8 @@ use Rattle.aud_examples.specs.Programs.BarrierRaises.{row as barrier_raises}
 use Rattle.aud_examples.specs.Programs.AbortInAction.{row as abort_in_action}
 use Rattle.aud_examples.specs.Programs.AbortOfItself.{row as abort_of_itself}
 use Rattle.aud_examples.specs.Programs.AbortWhileQueued.{row as abort_while_queued}
+use Rattle.aud_examples.specs.Programs.RequeueToTask.{row as requeue_to_task}
+use Rattle.aud_examples.specs.Programs.RequeueToObject.{row as requeue_with_abort, staying as requeue_without_abort}
 use Rattle.aud_examples.specs.Programs.Stuck.{row as stuck}
 use Rattle.aud_examples.specs.Programs.TaskInLoop.{row as task_in_loop}
 
@@ -50,6 +52,9 @@ rows =
     ∷ abort_in_action
     ∷ abort_of_itself
     ∷ abort_while_queued
+    ∷ requeue_to_task
+    ∷ requeue_with_abort
+    ∷ requeue_without_abort
     ∷ stuck
     ∷ task_in_loop
     ∷ []

@@ -4,4 +4,4 @@ use Rattle.aud_examples.proofs.laws.programs.Goals as goal
 
 pub returns : goal.returns
 unfolding digits
-returns c = (record { statements = refl; code = refl }, (record { statements = refl; code = refl }, (record { statements = refl; code = refl }, (record { statements = refl; code = refl }, (record { statements = refl; code = refl }, (record { statements = refl; code = refl }, (record { statements = refl; code = refl }, (record { statements = refl; code = refl }, (record { statements = refl; code = refl }, (record { statements = refl; code = refl }, (record { statements = refl; code = refl }, (record { statements = refl; code = refl }, (record { statements = refl; code = refl }, (record { statements = refl; code = refl }, (record { statements = refl; code = refl }, (record { statements = refl; code = refl }, (record { statements = refl; code = refl }, (record { statements = refl; code = refl }, (record { statements = refl; code = refl }, (record { statements = refl; code = refl }, (record { statements = refl; code = refl }, (record { statements = refl; code = refl }, (record { statements = refl; code = refl }, (record { statements = refl; code = refl }, tt))))))))))))))))))))))))
+returns c = (record { statements = refl; code = refl }, (record { statements = refl; code = refl }, (record { statements = refl; code = refl }, (record { statements = refl; code = refl }, (record { statements = refl; code = refl }, (record { statements = refl; code = refl }, (record { statements = refl; code = refl }, (record { statements = refl; code = refl }, (record { statements = refl; code = refl }, (record { statements = refl; code = refl }, (record { statements = refl; code = refl }, (record { statements = refl; code = refl }, (record { statements = refl; code = refl }, (record { statements = refl; code = refl }, (record { statements = refl; code = refl }, (record { statements = refl; code = refl }, (record { statements = refl; code = refl }, (record { statements = refl; code = refl }, (record { statements = refl; code = refl }, (record { statements = refl; code = refl }, (record { statements = refl; code = refl }, (record { statements = refl; code = refl }, (record { statements = refl; code = refl }, (record { statements = refl; code = refl }, (record { statements = refl; code = refl }, (record { statements = refl; code = refl }, (record { statements = refl; code = refl }, tt)))))))))))))))))))))))))))
