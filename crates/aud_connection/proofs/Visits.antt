@@ -1,6 +1,6 @@
 -- What is told for one request more.
 use Rattle.std.proofs.Common.{◌≡◌, ◌⊎◌, inl, inr, ◌||◌, ℕ, List, [], ◌∷◌, ◌++◌, length, Option, Some, None, Bool, true, false, refl, sym, ap, ◌∙◌, subst, append-nil, append_assoc}
-use Rattle.std.specs.List.{list_any}
+use Rattle.std.specs.List.{concat, list_any}
 use Rattle.std.proofs.lemmas.List.Folds.{list_any-append}
 use Rattle.aud_text.specs.declared.limits.Limits.{Limits}
 use Rattle.aud_bench.specs.declared.request.Request.{Request}
@@ -282,19 +282,17 @@ module _ (seats : List Limits) where
       }
 
   -- so it stops at the QUIT of a seat
-  pub stops_at : {S : Type 0} (visit : S → Visit) (left remaining before now : Option (List ℕ)) → Stops (visit_words seats visit) left remaining before now → StopsAtQuit seats left remaining before now
-  stops_at visit left remaining before now (inl none) = inl none
-  stops_at visit left remaining before now (inr s) =
+  pub stops_at : {S : Type 0} (visit : S → Visit) (left remaining before now : Option (List ℕ)) (old new : List (List ℕ)) → Stops (visit_words seats visit) left remaining before now old new → StopsAtQuit seats left remaining before now old new
+  stops_at visit left remaining before now old new (inl none) = inl none
+  stops_at visit left remaining before now old new (inr s) =
       inr (record {
-        input = s.input;
-        piece = s.piece;
-        taken = s.taken;
+        pieces = s.pieces;
+        read = s.read;
         told = s.told;
         goes_on = greets_so s.told (λ rest is. by rest (visit s.state).pass (visit s.state).over is s.going) s.is;
         written = s.written;
-        short = s.short;
       })
     where
-      by : (rest : List ℕ) (o : Option Passed) (over : Bool) → IsBy seats (requests s.input) rest o over → over ≡ false → Waits seats (requests s.input) rest ⊎ ((talks : Talks seats (requests s.input) rest) × (list_any is_quit talks.after ≡ false))
+      by : (rest : List ℕ) (o : Option Passed) (over : Bool) → IsBy seats (requests (concat s.pieces)) rest o over → over ≡ false → Waits seats (requests (concat s.pieces)) rest ⊎ ((talks : Talks seats (requests (concat s.pieces)) rest) × (list_any is_quit talks.after ≡ false))
       by rest None over (w, none) going = inl w
       by rest (Some p) over seated going = inr (seated.talks, sym seated.ends ∙ going)

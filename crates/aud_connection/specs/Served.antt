@@ -1,7 +1,6 @@
 -- What `serve` tells a connection for its requests, where the seats of the desk have these limits.
-use Rattle.std.specs.Prelude.{◌≡◌, ◌⊎◌, ℕ, ◌≤◌, true, false, length, List, [], ◌∷◌, ◌++◌, Option, Some}
-use Rattle.std.specs.Io.KnownBytes.{Consumes}
-use Rattle.std.specs.List.{list_any}
+use Rattle.std.specs.Prelude.{◌≡◌, ◌⊎◌, ℕ, true, false, List, [], ◌∷◌, ◌++◌, Option, Some}
+use Rattle.std.specs.List.{concat, list_any}
 use Rattle.aud_text.specs.declared.limits.Limits.{Limits}
 use Rattle.aud_bench.specs.declared.request.Request.{Request}
 use Rattle.aud_bench.specs.declared.request.Request.TheVariants.{Seat}
@@ -12,7 +11,7 @@ use Rattle.aud_hall.specs.Ties.Places.{seat_limits}
 use Rattle.aud_pass.specs.Passed.{IsPrefix}
 use Rattle.aud_lines.specs.Requests.{requests}
 use Rattle.aud_lines.specs.Text.{answer_text}
-use Rattle.aud_solo.specs.declared.serving.TheConstants.{PIECE}
+use Rattle.aud_solo.specs.Serving.{ReadsOneMore, ReadsNothing}
 use Rattle.aud_solo.specs.Streams.{AppendsFirst}
 use Rattle.aud_connection.specs.Greeting.{greeting}
 use Rattle.aud_connection.specs.Told.{Told, told_texts, all_answered, are_answers, AreRefused, AreTold}
@@ -61,16 +60,15 @@ Tells seats asked text = Greets seats text (λ rest. Waits seats asked rest ⊎ 
 abbrev pub IsOpen : List Limits → List Request → List ℕ → Type 0
 IsOpen seats asked text = Greets seats text (λ rest. Waits seats asked rest ⊎ ((talks : Talks seats asked rest) × (list_any is_quit talks.after ≡ false)))
 
--- Bytes are read for whose requests, with no QUIT of a seat, this was told and is written, and besides at most as many bytes as one read has.
-pub record ReadsToQuit (seats : List Limits) (left remaining before after : Option (List ℕ)) : Type 0 where
-  pub input : List ℕ
-  pub piece : List ℕ
-  pub taken : Consumes left remaining (input ++ piece)
+-- Pieces are read for whose requests, with no QUIT of a seat, this was told and is written, and then at most one more.
+pub record ReadsToQuit (seats : List Limits) (left remaining before after : Option (List ℕ)) (old new : List (List ℕ)) : Type 0 where
+  pub pieces : List (List ℕ)
+  pub read : ReadsOneMore left remaining old new pieces
   pub told : List ℕ
-  pub goes_on : IsOpen seats (requests input) told
+  pub goes_on : IsOpen seats (requests (concat pieces)) told
   pub written : AppendsFirst before after told
-  pub short : length piece ≤ PIECE
 
--- What is read, however the call ends: nothing, or so much. So it stops within so many bytes of the QUIT of a connection with a seat.
-abbrev pub StopsAtQuit : List Limits → (left remaining before after : Option (List ℕ)) → Type 0
-StopsAtQuit seats left remaining before after = Consumes left remaining [] ⊎ ReadsToQuit seats left remaining before after
+-- What is read, however the call ends: nothing, or so much. So behind the read that brings the QUIT of a connection with a seat there is no
+-- other.
+abbrev pub StopsAtQuit : List Limits → (left remaining before after : Option (List ℕ)) → (old new : List (List ℕ)) → Type 0
+StopsAtQuit seats left remaining before after old new = ReadsNothing left remaining old new ⊎ ReadsToQuit seats left remaining before after old new

@@ -1,9 +1,9 @@
 // A connection, served from its first byte to its last.
 
-ghost use Rattle.std.specs.Prelude.{◌≡◌};
+ghost use Rattle.std.specs.Prelude.{◌≡◌, ◌+◌};
 ghost use Rattle.aud_solo.specs.declared.serving.TheConstants.{READS};
 ghost use Rattle.aud_solo.specs.Serving.{Serves, CountsReadsTo, CountsWrites};
-ghost use Rattle.aud_solo.specs.Streams.{counted_by, CountsUpTo};
+ghost use Rattle.aud_solo.specs.Streams.{CountsUpTo};
 ghost use Rattle.aud_connection.specs.Served.{Tells, StopsAtQuit};
 ghost use Rattle.aud_connection.specs.Ties.Words.{visit_words};
 
@@ -73,9 +73,9 @@ pub fn serve<R: Wait, D: Seating, S: Source, T: Sink>(
     ensures serves { Serves (Tells D.limits) result (S.remaining reader.old) (S.remaining reader.new)
         (T.contents writer.old) (T.contents writer.new) }
     ensures quit { StopsAtQuit D.limits (S.remaining reader.old) (S.remaining reader.new)
-        (T.contents writer.old) (T.contents writer.new) }
+        (T.contents writer.old) (T.contents writer.new) (S.pieces reader.old) (S.pieces reader.new) }
     ensures reads { CountsUpTo READS (S.calls reader.old) (S.calls reader.new) }
-    ensures read { CountsReadsTo (S.calls reader.new ≡ counted_by READS (S.calls reader.old)) result
+    ensures read { CountsReadsTo (S.calls reader.new ≡ S.calls reader.old + READS) result
         (S.failures reader.old) (S.failures reader.new) }
     ensures write { CountsWrites result (T.failures writer.old) (T.failures writer.new) }
 {

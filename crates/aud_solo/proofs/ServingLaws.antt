@@ -3,6 +3,7 @@ use Rattle.std.proofs.Common.{◌≡◌, inl, inr, not, ℕ, ◌+◌, ◌<◌, �
 use Rattle.std.proofs.lemmas.List.{take_more, take-append-drop}
 use Rattle.std.specs.Prelude.{Result, IfSome, OnOk}
 use Rattle.std.specs.Io.KnownBytes.{Appends, Consumes, IsAtEnd}
+use Rattle.std.specs.List.{concat}
 use Rattle.aud_bench.specs.declared.request.Request.{Request}
 use Rattle.aud_lines.specs.Ties.Begun.{Begun, nothing, requests_behind}
 use Rattle.aud_lines.specs.Ties.Splits.{Splits}
@@ -13,7 +14,7 @@ use Rattle.aud_solo.specs.declared.serving.TheConstants.{PIECE}
 use Rattle.aud_solo.specs.Serving.{Telling, HasRead, TellsSome, WritesAll, WritesCut, WritesPart, memory_text}
 use Rattle.aud_solo.specs.Streams.{Grows, AppendsPrefix}
 use Rattle.aud_solo.specs.Ties.Serving.{Words, TellsNext, TellsNoMore, HasTold, TellsTo, WritesSome, WritesPrefix, HasServed, StopsIn, Stops, GoesOn}
-use Rattle.aud_solo.proofs.StreamLaws.{appends_more, grows_none, first_grown, first_more, consumes_none, consumes_more}
+use Rattle.aud_solo.proofs.StreamLaws.{appends_more, grows_none, first_grown, first_more, consumes_none, consumes_more, concat_more, reads_more}
 
 -- ---- of several requests the one at i
 
@@ -29,18 +30,16 @@ all_of asked rs i r below is =
 
 -- ---- prefixes, and then that memory is out
 
-pub stops_more : {S : Type 0} (words : Words S) (left remaining before middle now : Option (List ℕ)) → Stops words left remaining before middle → Grows middle now → Stops words left remaining before now
-stops_more words left remaining before middle now (inl none) grows = inl none
-stops_more words left remaining before middle now (inr s) grows = inr (record {
-  input = s.input;
-  piece = s.piece;
-  taken = s.taken;
+pub stops_more : {S : Type 0} (words : Words S) (left remaining before middle now : Option (List ℕ)) (old new : List (List ℕ)) → Stops words left remaining before middle old new → Grows middle now → Stops words left remaining before now old new
+stops_more words left remaining before middle now old new (inl none) grows = inl none
+stops_more words left remaining before middle now old new (inr s) grows = inr (record {
+  pieces = s.pieces;
+  read = s.read;
   told = s.told;
   state = s.state;
   is = s.is;
   going = s.going;
   written = first_more before middle now s.told s.written grows;
-  short = s.short;
 })
 
 module _ (tells : Telling) where
@@ -94,10 +93,13 @@ module _ {S : Type 0} (words : Words S) where
 
   -- ---- bytes read
 
-  pub served_start : (left before now : Option (List ℕ)) (feed : Begun) (state : S) → feed ≡ nothing → HasTold words before now [] state → HasServed words left left before now feed state
-  served_start left before now feed state empty told = record {
+  pub served_start : (left before now : Option (List ℕ)) (old : List (List ℕ)) (feed : Begun) (state : S) → feed ≡ nothing → HasTold words before now [] state → HasServed words left left before now old old feed state
+  served_start left before now old feed state empty told = record {
+    pieces = [];
     input = [];
     asked = [];
+    reads = sym (append-nil old);
+    input_is = refl;
     taken = consumes_none left;
     fed = λ more. sym (of_nothing more) ∙ ap (λ begun. requests_behind begun more) (sym empty);
     begun = ap (λ begun. requests_behind begun []) empty ∙ none_whole nothing refl;
@@ -123,7 +125,7 @@ module _ {S : Type 0} (words : Words S) where
   goes_of true state remaining going on = going
   goes_of false state remaining going on = absurd (cc)
 
-  module _ (left remaining before now : Option (List ℕ)) (feed : Begun) (state : S) (h : HasServed words left remaining before now feed state) where
+  module _ (left remaining before now : Option (List ℕ)) (old middle : List (List ℕ)) (feed : Begun) (state : S) (h : HasServed words left remaining before now old middle feed state) where
     asked_all : requests h.input ≡ h.asked
     asked_all =
         ap requests (sym (append-nil h.input))
@@ -136,27 +138,52 @@ module _ {S : Type 0} (words : Words S) where
     wrote_all = subst (WritesAll words.tells before now) (sym asked_all) (h.told.told, h.told.tells, h.told.written)
 
     -- one who goes on reads a piece more, and nothing more
-    pub stops_behind : words.over state ≡ false → (rest new : Option (List ℕ)) (piece : List ℕ) → Consumes remaining rest piece → Grows now new → length piece ≤ PIECE → StopsIn words left rest before new
-    stops_behind going rest new piece taken grows short = record {
-      input = h.input;
-      piece = piece;
-      taken = consumes_more left remaining rest h.input piece h.taken taken;
+    told_so : words.has_told (requests (concat h.pieces)) h.told.told state
+    told_so = subst (λ rs. words.has_told rs h.told.told state) (sym asked_all ∙ ap requests h.input_is) h.told.is
+
+    pub stops_behind : words.over state ≡ false → (rest now' : Option (List ℕ)) (new : List (List ℕ)) (piece : List ℕ) → Consumes remaining rest piece → new ≡ middle ++ piece ∷ [] → Grows now now' → length piece ≤ PIECE → StopsIn words left rest before now' old new
+    stops_behind going rest now' new piece taken read grows short = record {
+      pieces = h.pieces;
+      read = record {
+        last = piece ∷ [];
+        one = omega arith;
+        reads = reads_more old middle new h.pieces piece h.reads read;
+        taken = subst (Consumes left rest) (ap (λ t. t ++ piece) h.input_is ∙ sym (concat_more h.pieces piece)) (consumes_more left remaining rest h.input piece h.taken taken);
+        short = subst (λ (t : List ℕ). length t ≤ PIECE) (sym (append-nil piece)) short;
+      };
       told = h.told.told;
       state = state;
-      is = subst (λ rs. words.has_told rs h.told.told state) (sym asked_all) h.told.is;
+      is = told_so;
       going = going;
-      written = first_grown before now new h.told.told h.told.written grows;
-      short = short;
+      written = first_grown before now now' h.told.told h.told.written grows;
     }
 
-    pub stops_here : words.over state ≡ false → StopsIn words left remaining before now
-    stops_here going = stops_behind going remaining now [] (consumes_none remaining) (grows_none now) (omega arith)
+    -- or nothing more at all
+    pub stops_here : words.over state ≡ false → StopsIn words left remaining before now old middle
+    stops_here going = record {
+      pieces = h.pieces;
+      read = record {
+        last = [];
+        one = omega arith;
+        reads = h.reads ∙ ap (λ t. old ++ t) (sym (append-nil h.pieces));
+        taken = subst (Consumes left remaining) (h.input_is ∙ ap concat (sym (append-nil h.pieces))) h.taken;
+        short = omega arith;
+      };
+      told = h.told.told;
+      state = state;
+      is = told_so;
+      going = going;
+      written = first_grown before now now h.told.told h.told.written (grows_none now);
+    }
 
-    -- nothing more is read
-    pub served_still : (rest : Option (List ℕ)) → Consumes remaining rest [] → HasServed words left rest before now feed state
-    served_still rest none = record {
+    -- a read brought nothing
+    pub served_still : (rest : Option (List ℕ)) (new : List (List ℕ)) → Consumes remaining rest [] → new ≡ middle ++ [] ∷ [] → HasServed words left rest before now old new feed state
+    served_still rest new none read = record {
+      pieces = h.pieces ++ [] ∷ [];
       input = h.input;
       asked = h.asked;
+      reads = reads_more old middle new h.pieces [] h.reads read;
+      input_is = h.input_is ∙ sym (append-nil (concat h.pieces)) ∙ sym (concat_more h.pieces []);
       taken = subst (Consumes left rest) (append-nil h.input) (consumes_more left remaining rest h.input [] h.taken none);
       fed = h.fed;
       begun = h.begun;
@@ -203,10 +230,13 @@ module _ {S : Type 0} (words : Words S) where
       pub front_given : (new : Option (List ℕ)) → WritesPrefix words.tells before new (h.asked ++ given) → WritesPrefix words.tells before new (requests (h.input ++ piece))
       front_given new = subst (WritesPrefix words.tells before new) (sym given_all)
 
-      pub served_more : (rest new : Option (List ℕ)) (state' : S) → Consumes remaining rest piece → HasTold words before new (h.asked ++ given) state' → HasServed words left rest before new next state'
-      served_more rest new state' taken told = record {
+      pub served_more : (rest now' : Option (List ℕ)) (new : List (List ℕ)) (state' : S) → Consumes remaining rest piece → new ≡ middle ++ piece ∷ [] → HasTold words before now' (h.asked ++ given) state' → HasServed words left rest before now' old new next state'
+      served_more rest now' new state' taken read told = record {
+        pieces = h.pieces ++ piece ∷ [];
         input = h.input ++ piece;
         asked = h.asked ++ given;
+        reads = reads_more old middle new h.pieces piece h.reads read;
+        input_is = ap (λ t. t ++ piece) h.input_is ∙ sym (concat_more h.pieces piece);
         taken = consumes_more left remaining rest h.input piece h.taken taken;
         fed = fed_more h.input piece feed next h.asked given h.fed split;
         begun = split.none;

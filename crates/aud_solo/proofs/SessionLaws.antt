@@ -101,18 +101,14 @@ over_says session over asked more told h = (
     says = h.says ∙ ap text (sym (subst (λ limits. alone limits (asked ++ more) ≡ alone limits asked) h.limits_are (still more)))
 
 -- so it stops at a QUIT
-pub stops_at : (left remaining before now : Option (List ℕ)) → Stops session_words left remaining before now → StopsAtQuit left remaining
-stops_at left remaining before now (inl none) = record {
+pub stops_at : (left remaining before now : Option (List ℕ)) (old new : List (List ℕ)) → Stops session_words left remaining before now old new → StopsAtQuit left remaining old new
+stops_at left remaining before now old new (inl none) = record {
   before = [];
-  piece = [];
-  taken = none;
+  read = record { last = []; one = omega arith; reads = none.1 ∙ sym (append-nil old); taken = none.0; short = omega arith };
   goes_on = ap (list_any is_quit) (sym (of_nothing []) ∙ none_whole nothing refl);
-  short = omega arith;
 }
-stops_at left remaining before now (inr s) = record {
-  before = s.input;
-  piece = s.piece;
-  taken = s.taken;
+stops_at left remaining before now old new (inr s) = record {
+  before = s.pieces;
+  read = s.read;
   goes_on = sym s.is.quit ∙ s.going;
-  short = s.short;
 }

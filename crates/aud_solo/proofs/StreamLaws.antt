@@ -1,10 +1,10 @@
--- What is left to read, what stands there, and what is counted, over several calls.
-use Rattle.std.proofs.Common.{◌≡◌, inl, inr, ℕ, ◌+◌, ◌<◌, ◌%◌, ◌^◌, List, [], ◌++◌, take, drop, Option, Some, None, refl, sym, ◌∙◌, ap, add_assoc, append_assoc, append-nil, subst, arith}
+-- What is left to read, what was read, and what stands there, over several calls.
+use Rattle.std.proofs.Common.{◌≡◌, ℕ, List, [], ◌∷◌, ◌++◌, take, drop, Option, Some, None, refl, sym, ◌∙◌, ap, append_assoc, append-nil, subst}
 use Rattle.std.proofs.lemmas.List.{take-append-drop}
-use Rattle.std.proofs.Math.Nat.{mod-add-mod}
+use Rattle.std.proofs.lemmas.List.Folds.{concat-append}
 use Rattle.std.specs.Io.KnownBytes.{Appends, Consumes, Keeps}
-use Rattle.aud_solo.specs.Streams.{counted, counted_by, Grows, AppendsFirst, AppendsPrefix}
-use Rattle.aud_solo.specs.Ties.Serving.{CountsTurns}
+use Rattle.std.specs.List.{concat}
+use Rattle.aud_solo.specs.Streams.{Grows, AppendsFirst, AppendsPrefix}
 
 -- bytes are written, and then the writer is flushed
 pub kept_behind : (a b c : Option (List ℕ)) (bytes : List ℕ) → Appends a b bytes → Keeps b c → Appends a c bytes
@@ -34,6 +34,15 @@ consumes_kept None b c xs h k = tt
 consumes_kept (Some all) None c xs h k = absurd h
 consumes_kept (Some all) (Some rest) None xs h k = absurd k
 consumes_kept (Some all) (Some rest) (Some end) xs h k = h ∙ ap (λ t. xs ++ t) (sym k)
+
+-- ---- pieces read
+
+-- one piece more
+pub concat_more : (pieces : List (List ℕ)) (piece : List ℕ) → concat (pieces ++ piece ∷ []) ≡ concat pieces ++ piece
+concat_more pieces piece = concat-append pieces (piece ∷ []) ∙ ap (λ t. concat pieces ++ t) (append-nil piece)
+
+pub reads_more : (old middle new pieces : List (List ℕ)) (piece : List ℕ) → middle ≡ old ++ pieces → new ≡ middle ++ piece ∷ [] → new ≡ old ++ (pieces ++ piece ∷ [])
+reads_more old middle new pieces piece h k = k ∙ ap (λ t. t ++ piece ∷ []) h ∙ append_assoc old pieces (piece ∷ [])
 
 -- ---- bytes written
 
@@ -74,19 +83,3 @@ pub written_front : (old middle new : Option (List ℕ)) (bytes rest : List ℕ)
     AppendsPrefix middle new rest → AppendsPrefix old new bytes
 written_front old middle new bytes rest (some, h, e) (xs, ys, k, f) =
     (some ++ xs, ys, appends_more old middle new some xs h k, e ∙ ap (λ t. some ++ t) f ∙ sym (append_assoc some xs ys))
-
--- ---- counts
-
--- one turn more
-pub turn_counted : (turns old middle new : ℕ) → CountsTurns turns old middle → new ≡ counted middle → new ≡ counted_by (turns + 1) old
-turn_counted turns old middle new (inl (none, same)) one = one ∙ ap counted same ∙ ap (λ n. counted_by (n + 1) old) (sym none)
-turn_counted turns old middle new (inr so_far) one =
-    one
-    ∙ ap counted so_far
-    ∙ mod-add-mod (old + turns) (2 ^ 64) 1
-    ∙ ap (λ n. n % 2 ^ 64) (add_assoc old turns 1)
-
--- some turns at least
-pub turns_counted : (turns most old new : ℕ) → CountsTurns turns old new → turns ≡ most → 0 < most → new ≡ counted_by most old
-turns_counted turns most old new (inl (none, same)) all some = absurd (omega arith)
-turns_counted turns most old new (inr so_far) all some = so_far ∙ ap (λ n. counted_by n old) all

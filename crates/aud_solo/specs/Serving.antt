@@ -1,7 +1,8 @@
 -- What a server on one stream of requests reads and writes, whatever it tells for them. Of a reader and a writer a word takes what was
 -- left in it, or stood there, before the call and after it. Nothing is said where that is not known.
-use Rattle.std.specs.Prelude.{◌≡◌, ◌⊎◌, ℕ, List, [], ◌++◌, Option, Result, Ok, Err, IfSome, OnOk, IsErrOf}
+use Rattle.std.specs.Prelude.{◌≡◌, ◌⊎◌, ℕ, ◌+◌, ◌≤◌, length, List, [], ◌++◌, Option, Result, Ok, Err, IfSome, OnOk, IsErrOf}
 use Rattle.std.specs.Io.KnownBytes.{Appends, Consumes}
+use Rattle.std.specs.List.{concat}
 use Rattle.aud_text.specs.declared.refusal.Refusal.TheVariants as refusal
 use Rattle.aud_bench.specs.declared.request.Request.{Request}
 use Rattle.aud_bench.specs.declared.request.Answer.TheVariants as answer
@@ -9,7 +10,8 @@ use Rattle.aud_lines.specs.Requests.{requests}
 use Rattle.aud_lines.specs.Text.{answer_text}
 use Rattle.aud_solo.specs.declared.serving.ServeFault.{ServeFault}
 use Rattle.aud_solo.specs.declared.serving.ServeFault.TheVariants as fault
-use Rattle.aud_solo.specs.Streams.{counted, AppendsPrefix}
+use Rattle.aud_solo.specs.declared.serving.TheConstants.{PIECE}
+use Rattle.aud_solo.specs.Streams.{AppendsPrefix}
 
 -- which text is told for which requests
 abbrev pub Telling : Type 1
@@ -18,6 +20,19 @@ Telling = List Request → List ℕ → Type 0
 -- the call has read bytes, of which this holds
 abbrev pub HasRead : Option (List ℕ) → Option (List ℕ) → (List ℕ → Type 0) → Type 0
 HasRead old new holds = (input : List ℕ) × Consumes old new input × holds input
+
+-- Of what a reader's calls have read, one piece for each: these pieces are added, and then at most one more. Where the reader tells its
+-- bytes, they are those of all of them.
+pub record ReadsOneMore (left remaining : Option (List ℕ)) (old new before : List (List ℕ)) : Type 0 where
+  pub last : List (List ℕ)
+  pub one : length last ≤ 1
+  pub reads : new ≡ old ++ (before ++ last)
+  pub taken : Consumes left remaining (concat (before ++ last))
+  pub short : length (concat last) ≤ PIECE
+
+-- no call has read
+abbrev pub ReadsNothing : (left remaining : Option (List ℕ)) → (old new : List (List ℕ)) → Type 0
+ReadsNothing left remaining old new = Consumes left remaining [] × (new ≡ old)
 
 -- what is told for all the requests is written
 abbrev pub WritesAll : Telling → Option (List ℕ) → Option (List ℕ) → List Request → Type 0
@@ -30,11 +45,12 @@ TellsSome tells all said = (said ≡ []) ⊎ ((some rest : List Request) × (all
 abbrev pub memory_text : List ℕ
 memory_text = answer_text (answer.Refused refusal.OutOfMemory)
 
--- what is told for some first ones is written, and then that memory is out
+-- what is told for some first ones is written, or nothing, and then that memory is out
 abbrev pub WritesCut : Telling → Option (List ℕ) → Option (List ℕ) → List Request → Type 0
 WritesCut tells old new asked = (said : List ℕ) × TellsSome tells asked said × Appends old new (said ++ memory_text)
 
--- a prefix of what is told for some first ones is written, or of that and then that memory is out; it may end within an answer
+-- A prefix of what is told for some first ones is written, or of that and then that memory is out; or nothing, or then a prefix of that
+-- memory is out. It may end within an answer.
 abbrev pub WritesPart : Telling → Option (List ℕ) → Option (List ℕ) → List Request → Type 0
 WritesPart tells old new asked = (said : List ℕ) × TellsSome tells asked said × (AppendsPrefix old new said ⊎ AppendsPrefix old new (said ++ memory_text))
 
@@ -52,14 +68,14 @@ pub record Serves {A : Type 0} (tells : Telling) (result : Result A ServeFault) 
 -- The failures of a reader before and after a call that stops at the first one: one more where it answers Read, else as before.
 abbrev pub CountsReads : {A : Type 0} → Result A ServeFault → ℕ → ℕ → Type 0
 CountsReads (Ok x) before after = after ≡ before
-CountsReads (Err fault.Read) before after = after ≡ counted before
+CountsReads (Err fault.Read) before after = after ≡ before + 1
 CountsReads (Err fault.Write) before after = after ≡ before
 CountsReads (Err fault.Memory) before after = after ≡ before
 
 -- the same of a call that may also answer Read because its reads are used up
 abbrev pub CountsReadsTo : {A : Type 0} → Type 0 → Result A ServeFault → ℕ → ℕ → Type 0
 CountsReadsTo used (Ok x) before after = after ≡ before
-CountsReadsTo used (Err fault.Read) before after = (after ≡ counted before) ⊎ ((after ≡ before) × used)
+CountsReadsTo used (Err fault.Read) before after = (after ≡ before + 1) ⊎ ((after ≡ before) × used)
 CountsReadsTo used (Err fault.Write) before after = after ≡ before
 CountsReadsTo used (Err fault.Memory) before after = after ≡ before
 
@@ -67,5 +83,5 @@ CountsReadsTo used (Err fault.Memory) before after = after ≡ before
 abbrev pub CountsWrites : {A : Type 0} → Result A ServeFault → ℕ → ℕ → Type 0
 CountsWrites (Ok x) before after = after ≡ before
 CountsWrites (Err fault.Read) before after = after ≡ before
-CountsWrites (Err fault.Write) before after = after ≡ counted before
+CountsWrites (Err fault.Write) before after = after ≡ before + 1
 CountsWrites (Err fault.Memory) before after = after ≡ before

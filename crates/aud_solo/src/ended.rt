@@ -1,11 +1,11 @@
 // With which status a program ends that has served one stream of requests.
 
-ghost use Rattle.std.specs.Prelude.{◌≡◌, ◌⊎◌};
+ghost use Rattle.std.specs.Prelude.{◌≡◌, ◌⊎◌, ◌+◌};
 ghost use Rattle.aud_solo.specs.declared.serving.TheConstants.{READS};
 ghost use Rattle.aud_solo.specs.Ended.{EndsAs, fault_status};
 ghost use Rattle.aud_solo.specs.Serving.{Serves, CountsReadsTo, CountsWrites};
 ghost use Rattle.aud_solo.specs.Solo.{TellsAlone, StopsAtQuit};
-ghost use Rattle.aud_solo.specs.Streams.{counted_by, CountsUpTo};
+ghost use Rattle.aud_solo.specs.Streams.{CountsUpTo};
 
 use crate::serving::ServeFault;
 use crate::solo::solo;
@@ -36,10 +36,11 @@ pub fn run_solo<S: Source, T: Sink>(
     ensures ended { EndsAs result (λ served.
         Serves TellsAlone served (S.remaining reader.old) (S.remaining reader.new)
         (T.contents writer.old) (T.contents writer.new)
-        × CountsReadsTo (S.calls reader.new ≡ counted_by READS (S.calls reader.old)) served
+        × CountsReadsTo (S.calls reader.new ≡ S.calls reader.old + READS) served
         (S.failures reader.old) (S.failures reader.new)
         × CountsWrites served (T.failures writer.old) (T.failures writer.new)) }
-    ensures quit { StopsAtQuit (S.remaining reader.old) (S.remaining reader.new) }
+    ensures quit { StopsAtQuit (S.remaining reader.old) (S.remaining reader.new)
+        (S.pieces reader.old) (S.pieces reader.new) }
     ensures reads { CountsUpTo READS (S.calls reader.old) (S.calls reader.new) }
 {
     match solo(alloc, reader, writer) {

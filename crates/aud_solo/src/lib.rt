@@ -3,6 +3,7 @@
 #![tactic(auto)]
 
 pub mod ended;
+mod history;
 pub mod serving;
 pub mod solo;
 pub mod streams;

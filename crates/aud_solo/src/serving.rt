@@ -1,12 +1,12 @@
 // The server on one stream of requests, whoever answers them.
 
-ghost use Rattle.std.specs.Prelude.{◌≡◌, ℕ, List, [], ◌∷◌, Option, true, false, OnOk, IfOk, IsErrOf};
+ghost use Rattle.std.specs.Prelude.{◌≡◌, ℕ, ◌+◌, List, [], ◌∷◌, Option, true, false, OnOk, IfOk, IsErrOf};
 ghost use Rattle.std.specs.Io.KnownBytes.{Appends};
 ghost use Rattle.aud_lines.specs.Ties.Begun.{nothing};
 ghost use Rattle.aud_solo.specs.declared.serving.TheConstants.{READS};
 ghost use Rattle.aud_solo.specs.declared.serving.ServeFault.TheVariants as fault;
 ghost use Rattle.aud_solo.specs.Serving.{Serves, CountsReads, CountsReadsTo, CountsWrites, memory_text};
-ghost use Rattle.aud_solo.specs.Streams.{counted, counted_by, CountsUpTo, Grows, AppendsPrefix};
+ghost use Rattle.aud_solo.specs.Streams.{CountsUpTo, Grows, AppendsPrefix};
 ghost use Rattle.aud_solo.specs.Ties.Serving.{Words, HasGreeted, HasTold, TellsTo, TellsNext, TellsNoMore, TellsMore, HasServed, StopsIn, Stops, ServesTurn, GoesOn, ServesSome};
 
 use crate::streams::{Sink, Source};
@@ -95,9 +95,9 @@ pub fn serve<A: Attendant, S: Source, T: Sink>(
     ensures serves { Serves A.words.tells result (S.remaining reader.old) (S.remaining reader.new)
         (T.contents writer.old) (T.contents writer.new) }
     ensures stops { Stops A.words (S.remaining reader.old) (S.remaining reader.new)
-        (T.contents writer.old) (T.contents writer.new) }
+        (T.contents writer.old) (T.contents writer.new) (S.pieces reader.old) (S.pieces reader.new) }
     ensures reads { CountsUpTo READS (S.calls reader.old) (S.calls reader.new) }
-    ensures read { CountsReadsTo (S.calls reader.new ≡ counted_by READS (S.calls reader.old)) result
+    ensures read { CountsReadsTo (S.calls reader.new ≡ S.calls reader.old + READS) result
         (S.failures reader.old) (S.failures reader.new) }
     ensures write { CountsWrites result (T.failures writer.old) (T.failures writer.new) }
 {
@@ -120,9 +120,9 @@ fn serve_all<A: Attendant, S: Source, T: Sink>(
     ensures serves { ServesSome A.words.tells result (S.remaining reader.old) (S.remaining reader.new)
         (T.contents writer.old) (T.contents writer.new) }
     ensures stops { Stops A.words (S.remaining reader.old) (S.remaining reader.new)
-        (T.contents writer.old) (T.contents writer.new) }
+        (T.contents writer.old) (T.contents writer.new) (S.pieces reader.old) (S.pieces reader.new) }
     ensures reads { CountsUpTo READS (S.calls reader.old) (S.calls reader.new) }
-    ensures read { CountsReadsTo (S.calls reader.new ≡ counted_by READS (S.calls reader.old)) result
+    ensures read { CountsReadsTo (S.calls reader.new ≡ S.calls reader.old + READS) result
         (S.failures reader.old) (S.failures reader.new) }
     ensures counts { CountsWrites result (T.failures writer.old) (T.failures writer.new) }
 {
@@ -166,9 +166,9 @@ fn serve_pieces<A: Attendant, S: Source, T: Sink>(
     ensures stops { (before : Option (List ℕ)) →
         HasTold A.words before (T.contents writer.old) [] attendant.old
         → StopsIn A.words (S.remaining reader.old) (S.remaining reader.new) before
-        (T.contents writer.new) }
+        (T.contents writer.new) (S.pieces reader.old) (S.pieces reader.new) }
     ensures reads { CountsUpTo READS (S.calls reader.old) (S.calls reader.new) }
-    ensures read { CountsReadsTo (S.calls reader.new ≡ counted_by READS (S.calls reader.old)) result
+    ensures read { CountsReadsTo (S.calls reader.new ≡ S.calls reader.old + READS) result
         (S.failures reader.old) (S.failures reader.new) }
     ensures counts { CountsWrites result (T.failures writer.old) (T.failures writer.new) }
 {
@@ -199,12 +199,12 @@ pub fn turn<A: Attendant, S: Source, T: Sink>(
     writer: &mut T,
 ) -> Result<bool, ServeFault>
     requires { A.words.over attendant.old ≡ false }
-    ensures one { S.calls reader.new ≡ counted (S.calls reader.old) }
-    ensures serves { (left before : Option (List ℕ)) →
-        HasServed A.words left (S.remaining reader.old) before (T.contents writer.old) feed.old
-        attendant.old
-        → ServesTurn A.words result left (S.remaining reader.new) before (T.contents writer.new)
-        feed.new attendant.new }
+    ensures one { S.calls reader.new ≡ S.calls reader.old + 1 }
+    ensures serves { (left before : Option (List ℕ)) (first : List (List ℕ)) →
+        HasServed A.words left (S.remaining reader.old) before (T.contents writer.old) first
+        (S.pieces reader.old) feed.old attendant.old
+        → ServesTurn A.words result left (S.remaining reader.new) before (T.contents writer.new) first
+        (S.pieces reader.new) feed.new attendant.new }
     ensures goes_on { IfOk result
         (λ on. GoesOn A.words on attendant.new (S.remaining reader.new)) }
     ensures read { CountsReads result (S.failures reader.old) (S.failures reader.new) }

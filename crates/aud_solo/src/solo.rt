@@ -1,10 +1,10 @@
 // The session of one user, on one stream of requests.
 
-ghost use Rattle.std.specs.Prelude.{◌≡◌};
+ghost use Rattle.std.specs.Prelude.{◌≡◌, ◌+◌};
 ghost use Rattle.aud_solo.specs.declared.serving.TheConstants.{READS};
 ghost use Rattle.aud_solo.specs.Serving.{Serves, CountsReadsTo, CountsWrites};
 ghost use Rattle.aud_solo.specs.Solo.{TellsAlone, StopsAtQuit};
-ghost use Rattle.aud_solo.specs.Streams.{counted_by, CountsUpTo};
+ghost use Rattle.aud_solo.specs.Streams.{CountsUpTo};
 ghost use Rattle.aud_solo.specs.Ties.Sessions.{session_words};
 
 use crate::serving::{Attendant, ServeFault, serve};
@@ -49,9 +49,10 @@ pub fn solo<S: Source, T: Sink>(
 ) -> Result<(), ServeFault>
     ensures serves { Serves TellsAlone result (S.remaining reader.old) (S.remaining reader.new)
         (T.contents writer.old) (T.contents writer.new) }
-    ensures quit { StopsAtQuit (S.remaining reader.old) (S.remaining reader.new) }
+    ensures quit { StopsAtQuit (S.remaining reader.old) (S.remaining reader.new)
+        (S.pieces reader.old) (S.pieces reader.new) }
     ensures reads { CountsUpTo READS (S.calls reader.old) (S.calls reader.new) }
-    ensures read { CountsReadsTo (S.calls reader.new ≡ counted_by READS (S.calls reader.old)) result
+    ensures read { CountsReadsTo (S.calls reader.new ≡ S.calls reader.old + READS) result
         (S.failures reader.old) (S.failures reader.new) }
     ensures write { CountsWrites result (T.failures writer.old) (T.failures writer.new) }
 {

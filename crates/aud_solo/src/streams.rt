@@ -1,21 +1,24 @@
 // Readers and writers that count their calls.
 
-ghost use Rattle.std.specs.Prelude.{◌≡◌, ◌≢◌, ◌↔◌, ℕ, ◌-◌, ◌<◌, ◌≤◌, List, Option, Some, length, take, IsTrue, IfOk, SomeIff, MatchResult};
+ghost use Rattle.std.specs.Prelude.{◌≡◌, ◌≢◌, ◌↔◌, ℕ, ◌+◌, ◌-◌, ◌<◌, ◌≤◌, List, [], ◌∷◌, ◌++◌, Option, Some, length, take, IsTrue, IfOk, SomeIff, MatchResult};
 ghost use Rattle.std.specs.Io.{ReadsAtMost, WritesAtMost};
 ghost use Rattle.std.specs.Io.KnownBytes.{Appends, Keeps, ReadConsumes, WriteAppends};
-ghost use Rattle.aud_solo.specs.Streams.{counted, AppendsPrefix};
+ghost use Rattle.aud_solo.specs.Streams.{AppendsPrefix};
 ghost use Rattle.aud_solo.specs.Ties.Fuses.{IsOneCallOn};
 
+use crate::history::History;
 use std::io::{self, ErrorKind, Read, Write};
 
 /// That a read or a write failed.
 #[derive(Clone, Copy)]
 pub struct Failed;
 
-/// What bytes are read from. It tells them, where they are known, and counts its calls and those that failed. A count begins
-/// again at 0 behind the largest number of 64 bits.
+/// What bytes are read from. It tells them, where they are known, counts its calls and those that failed, and tells what each
+/// call has read: a piece for each, of no byte where it failed. All this stands in proofs alone, and no count has an end.
 pub trait Source {
     ghost remaining: { Self → Option (List ℕ) };
+
+    ghost pieces: { Self → List (List ℕ) };
 
     ghost calls: { Self → ℕ };
 
@@ -29,9 +32,12 @@ pub trait Source {
     fn pull(&mut self, piece: &mut [u8]) -> Result<usize, Failed>
         ensures bound { IfOk result (λ n. n ≤ length piece.new) }
         ensures bytes { ReadConsumes (remaining self.old) (remaining self.new) result piece.new }
-        ensures calls { calls self.new ≡ counted (calls self.old) }
+        ensures pieces { MatchResult result
+            (λ n. pieces self.new ≡ pieces self.old ++ take n piece.new ∷ [])
+            (λ _. pieces self.new ≡ pieces self.old ++ [] ∷ []) }
+        ensures calls { calls self.new ≡ calls self.old + 1 }
         ensures failures { MatchResult result (λ _. failures self.new ≡ failures self.old)
-            (λ _. failures self.new ≡ counted (failures self.old)) };
+            (λ _. failures self.new ≡ failures self.old + 1) };
 }
 
 /// What bytes are written to. It tells them, where they are known, and counts its calls and those that failed, as a `Source`
@@ -54,29 +60,33 @@ pub trait Sink {
         ensures bytes { MatchResult result
             (λ n. Appends (contents self.old) (contents self.new) (take n bytes.now))
             (λ _. AppendsPrefix (contents self.old) (contents self.new) bytes.now) }
-        ensures calls { calls self.new ≡ counted (calls self.old) }
+        ensures calls { calls self.new ≡ calls self.old + 1 }
         ensures failures { MatchResult result (λ _. failures self.new ≡ failures self.old)
-            (λ _. failures self.new ≡ counted (failures self.old)) };
+            (λ _. failures self.new ≡ failures self.old + 1) };
 }
 
 /// A reader or a writer whose calls are counted.
 #[derive(Drop)]
 pub struct Stream<S> {
     inner: S,
-    calls: u64,
-    failures: u64,
+    // What each call has read, or was to write.
+    calls: History,
+    // A piece for each call that failed.
+    failures: History,
 }
 
 impl<S> Stream<S> {
     /// Of a reader or a writer, with no call counted so far. A call is one of `pull` or `push`, however often what is
     /// interrupted is tried again within it.
     pub fn new(inner: S) -> Stream<S>
-        ensures { (result.inner ≡ inner) × (result.calls ≡ 0) × (result.failures ≡ 0) }
+        ensures inner { result.inner ≡ inner }
+        ensures calls { result.calls.pieces ≡ [] }
+        ensures failures { result.failures.pieces ≡ [] }
     {
         Stream {
             inner,
-            calls: 0,
-            failures: 0,
+            calls: History::new(),
+            failures: History::new(),
         }
     }
 }
@@ -84,16 +94,21 @@ impl<S> Stream<S> {
 impl<R: Read> Source for Stream<R> {
     ghost remaining = { λ s. R.remaining s.inner };
 
-    ghost calls = { λ s. s.calls };
+    ghost pieces = { λ s. s.calls.pieces };
 
-    ghost failures = { λ s. s.failures };
+    ghost calls = { λ s. length s.calls.pieces };
+
+    ghost failures = { λ s. length s.failures.pieces };
 
     fn pull(&mut self, piece: &mut [u8]) -> Result<usize, Failed> {
-        self.calls = self.calls.wrapping_add(1);
         match read(&mut self.inner, piece) {
-            Ok(count) => Ok(count),
+            Ok(count) => {
+                self.calls.note(&piece[..count]);
+                Ok(count)
+            }
             Err(failed) => {
-                self.failures = self.failures.wrapping_add(1);
+                self.calls.note(&[]);
+                self.failures.note(&[]);
                 Err(failed)
             }
         }
@@ -103,16 +118,16 @@ impl<R: Read> Source for Stream<R> {
 impl<W: Write> Sink for Stream<W> {
     ghost contents = { λ s. W.contents s.inner };
 
-    ghost calls = { λ s. s.calls };
+    ghost calls = { λ s. length s.calls.pieces };
 
-    ghost failures = { λ s. s.failures };
+    ghost failures = { λ s. length s.failures.pieces };
 
     fn push(&mut self, bytes: &[u8]) -> Result<usize, Failed> {
-        self.calls = self.calls.wrapping_add(1);
+        self.calls.note(bytes);
         match write(&mut self.inner, bytes) {
             Ok(count) => Ok(count),
             Err(failed) => {
-                self.failures = self.failures.wrapping_add(1);
+                self.failures.note(&[]);
                 Err(failed)
             }
         }

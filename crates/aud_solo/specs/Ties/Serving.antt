@@ -1,14 +1,14 @@
 -- What whoever answers the requests of a stream has been asked and has told, turn by turn.
-use Rattle.std.specs.Prelude.{◌≡◌, ◌⊎◌, ℕ, ◌≤◌, Bool, true, false, List, [], ◌∷◌, ◌++◌, length, Option, Result, IfSome, OnOk, IsErrOf}
+use Rattle.std.specs.Prelude.{◌≡◌, ◌⊎◌, ℕ, Bool, true, false, List, [], ◌∷◌, ◌++◌, Option, Result, IfSome, OnOk, IsErrOf}
 use Rattle.std.specs.Io.KnownBytes.{Appends, Consumes, IsAtEnd}
+use Rattle.std.specs.List.{concat}
 use Rattle.aud_bench.specs.declared.request.Request.{Request}
 use Rattle.aud_lines.specs.Requests.{requests}
 use Rattle.aud_lines.specs.Ties.Begun.{Begun, requests_behind}
-use Rattle.aud_solo.specs.declared.serving.TheConstants.{PIECE}
 use Rattle.aud_solo.specs.declared.serving.ServeFault.{ServeFault}
 use Rattle.aud_solo.specs.declared.serving.ServeFault.TheVariants as fault
-use Rattle.aud_solo.specs.Serving.{Telling, HasRead, WritesAll, TellsSome}
-use Rattle.aud_solo.specs.Streams.{counted_by, AppendsFirst, AppendsPrefix}
+use Rattle.aud_solo.specs.Serving.{Telling, HasRead, ReadsOneMore, ReadsNothing, WritesAll, TellsSome}
+use Rattle.aud_solo.specs.Streams.{AppendsFirst, AppendsPrefix}
 
 -- what those in states of a type tell
 pub record Words (S : Type 0) : Type 1 where
@@ -63,38 +63,39 @@ TellsMore words result old new more state next =
     (before : Option (List ℕ)) (asked : List Request) → HasTold words before old asked state → TellsTo words result before new (asked ++ more) next
 
 -- of what was left bytes are read, all their requests are told of, and the feed has what they begin
-pub record HasServed {S : Type 0} (words : Words S) (left remaining before now : Option (List ℕ)) (feed : Begun) (state : S) : Type 0 where
+pub record HasServed {S : Type 0} (words : Words S) (left remaining before now : Option (List ℕ)) (old new : List (List ℕ)) (feed : Begun) (state : S) : Type 0 where
+  pub pieces : List (List ℕ)
   pub input : List ℕ
   pub asked : List Request
+  pub reads : new ≡ old ++ pieces
+  pub input_is : input ≡ concat pieces
   pub taken : Consumes left remaining input
   pub fed : (more : List ℕ) → requests (input ++ more) ≡ asked ++ requests_behind feed more
   pub begun : requests_behind feed [] ≡ []
   pub told : HasTold words before now asked state
 
--- What is read, however the call ends: bytes whose requests were told of by one who tells more, and besides at most as many as one read has.
-pub record StopsIn {S : Type 0} (words : Words S) (left remaining before now : Option (List ℕ)) : Type 0 where
-  pub input : List ℕ
-  pub piece : List ℕ
-  pub taken : Consumes left remaining (input ++ piece)
+-- What is read, however the call ends: pieces whose requests were told of by one who tells more, and then at most one more.
+pub record StopsIn {S : Type 0} (words : Words S) (left remaining before now : Option (List ℕ)) (old new : List (List ℕ)) : Type 0 where
+  pub pieces : List (List ℕ)
+  pub read : ReadsOneMore left remaining old new pieces
   pub told : List ℕ
   pub state : S
-  pub is : words.has_told (requests input) told state
+  pub is : words.has_told (requests (concat pieces)) told state
   pub going : words.over state ≡ false
   pub written : AppendsFirst before now told
-  pub short : length piece ≤ PIECE
 
 -- the same of a whole session, which may end before anything is read
-abbrev pub Stops : {S : Type 0} → Words S → (left remaining before now : Option (List ℕ)) → Type 0
-Stops words left remaining before now = Consumes left remaining [] ⊎ StopsIn words left remaining before now
+abbrev pub Stops : {S : Type 0} → Words S → (left remaining before now : Option (List ℕ)) → (old new : List (List ℕ)) → Type 0
+Stops words left remaining before now old new = ReadsNothing left remaining old new ⊎ StopsIn words left remaining before now old new
 
 -- What a turn makes of what was served before it. Behind that, all that has come with this turn is served; where its read failed, there is
 -- nothing more. Where memory is refused, or a write failed, it is read, and a prefix of what is told for it is written.
-pub record ServesTurn {S A : Type 0} (words : Words S) (result : Result A ServeFault) (left remaining before now : Option (List ℕ)) (feed : Begun) (state : S) : Type 0 where
-  pub served : OnOk result (HasServed words left remaining before now feed state)
-  pub read : IsErrOf result fault.Read → HasServed words left remaining before now feed state
+pub record ServesTurn {S A : Type 0} (words : Words S) (result : Result A ServeFault) (left remaining before now : Option (List ℕ)) (old new : List (List ℕ)) (feed : Begun) (state : S) : Type 0 where
+  pub served : OnOk result (HasServed words left remaining before now old new feed state)
+  pub read : IsErrOf result fault.Read → HasServed words left remaining before now old new feed state
   pub memory : IsErrOf result fault.Memory → HasRead left remaining (λ input. WritesSome words.tells before now (requests input))
   pub write : IsErrOf result fault.Write → HasRead left remaining (λ input. WritesPrefix words.tells before now (requests input))
-  pub stops : StopsIn words left remaining before now
+  pub stops : StopsIn words left remaining before now old new
 
 -- whether another turn is due: not where nothing more is told, nor at the end of what is read
 abbrev pub GoesOn : {S : Type 0} → Words S → Bool → S → Option (List ℕ) → Type 0
@@ -108,7 +109,3 @@ pub record ServesSome {A : Type 0} (tells : Telling) (result : Result A ServeFau
   pub read : IsErrOf result fault.Read → HasRead left remaining (λ input. WritesAll tells before after (requests input))
   pub memory : IsErrOf result fault.Memory → HasRead left remaining (λ input. WritesSome tells before after (requests input))
   pub write : IsErrOf result fault.Write → HasRead left remaining (λ input. WritesPrefix tells before after (requests input))
-
--- the calls of a reader before and after so many turns, each of one call
-abbrev pub CountsTurns : ℕ → ℕ → ℕ → Type 0
-CountsTurns turns old new = ((turns ≡ 0) × (new ≡ old)) ⊎ (new ≡ counted_by turns old)

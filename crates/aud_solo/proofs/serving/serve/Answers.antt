@@ -26,12 +26,12 @@ returns-in_ok-write-clause-serves g c =
 pub returns-in_err-write-clause-stops : goal.returns-in_err-write-clause-stops
 returns-in_err-write-clause-stops g c =
     let contents = g.T.Sink.contents in
-    stops_more g.A.Attendant.words (g.S.Source.remaining c.args.reader.now) (g.S.Source.remaining c.serve_all-served.new.reader) (contents c.args.writer.now) (contents c.serve_all-served.new.writer) (contents c.write.new.writer) c.serve_all-served.ensures.stops c.write.ensures.grows
+    stops_more g.A.Attendant.words (g.S.Source.remaining c.args.reader.now) (g.S.Source.remaining c.serve_all-served.new.reader) (contents c.args.writer.now) (contents c.serve_all-served.new.writer) (contents c.write.new.writer) (g.S.Source.pieces c.args.reader.now) (g.S.Source.pieces c.serve_all-served.new.reader) c.serve_all-served.ensures.stops c.write.ensures.grows
 
 pub returns-in_ok-write-clause-stops : goal.returns-in_ok-write-clause-stops
 returns-in_ok-write-clause-stops g c =
     let contents = g.T.Sink.contents in
-    stops_more g.A.Attendant.words (g.S.Source.remaining c.args.reader.now) (g.S.Source.remaining c.serve_all-served.new.reader) (contents c.args.writer.now) (contents c.serve_all-served.new.writer) (contents c.write.new.writer) c.serve_all-served.ensures.stops c.write.ensures.grows
+    stops_more g.A.Attendant.words (g.S.Source.remaining c.args.reader.now) (g.S.Source.remaining c.serve_all-served.new.reader) (contents c.args.writer.now) (contents c.serve_all-served.new.writer) (contents c.write.new.writer) (g.S.Source.pieces c.args.reader.now) (g.S.Source.pieces c.serve_all-served.new.reader) c.serve_all-served.ensures.stops c.write.ensures.grows
 
 pub returns-else-matches-clause-serves : goal.returns-else-matches-clause-serves
 returns-else-matches-clause-serves g c =
