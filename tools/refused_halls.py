@@ -4,6 +4,7 @@ The program itself looks at each world that came back: its outboxes must be fron
 memory is out at most. It ends with status 4 then, and says nothing on standard output before its rows are done.
 usage: refused_halls.py PROGRAM
 """
+import os
 import subprocess
 import sys
 import tempfile
@@ -25,9 +26,9 @@ def run(built, words, number):
 
 def main(program):
     words, others, unneeded = [program, "--halls", str(ROWS)], 0, 0
-    with tempfile.TemporaryDirectory() as folder, ThreadPoolExecutor(2) as runs:
+    with tempfile.TemporaryDirectory() as folder, ThreadPoolExecutor(os.cpu_count()) as runs:
         built = library(folder)
-        (count, _, _), written = counted(built, words, b"")
+        (count, *_), written = counted(built, words, b"")
         numbers = range(1, count + 1)
         for number, found in zip(numbers, runs.map(lambda number: run(built, words, number), numbers)):
             unneeded += found == (0, b"", written)

@@ -1,0 +1,52 @@
+#!/bin/sh
+# What the gate runs behind `rt ci`, on the programs that it built: one tool after the other, each within its time, with one line for each.
+# What a tool tells is shown where it finds something. With `needs` it only looks whether what the tools need is there.
+set -u
+tools=$(cd "$(dirname "$0")" && pwd)
+lacking=0
+if ! python3 -c 'import sys; sys.exit(sys.version_info < (3, 9))' 2> /dev/null; then
+    echo "after: no python3 of version 3.9 or later" >&2
+    lacking=1
+fi
+if ! echo 'int main(void) { return 0; }' | "${CC:-cc}" -x c -o /dev/null - 2> /dev/null; then
+    echo "after: no C compiler ${CC:-cc}" >&2
+    lacking=1
+fi
+if [ $lacking = 1 ] || [ "${1:-}" = needs ]; then
+    exit $lacking
+fi
+told=$(mktemp)
+trap 'rm -f "$told"' EXIT
+failed=0
+
+# Runs a tool for at most so many seconds. All that it started is stopped then.
+within() {
+    seconds=$1
+    shift
+    begun=$(date +%s)
+    timeout -k 10 "$seconds" "$tools/check" "$@" > "$told" 2>&1 < /dev/null
+    status=$?
+    took=$(($(date +%s) - begun))
+    if [ $status = 0 ]; then
+        echo "after: $took s: $(tail -n 1 "$told")"
+        return
+    fi
+    failed=$((failed + 1))
+    [ $status != 124 ] || echo "after: not done within $seconds seconds" >> "$told"
+    tail -n 40 "$told"
+    echo "after: $took s: FAILED with status $status: tools/check $*"
+}
+
+within 600 refused
+within 600 refused-connection
+within 600 refused-desk
+within 600 refused-halls
+within 120 refused-threads
+within 600 model 1 60 each
+within 600 halls
+within 600 stack 1280
+within 600 stack 1280 large
+if [ $failed != 0 ]; then
+    echo "after: $failed tools failed" >&2
+    exit 1
+fi
