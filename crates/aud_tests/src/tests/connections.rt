@@ -389,22 +389,27 @@ fn leaves<R: Abort + Threads + Wait + Sync, H: Host + Sync, G: Gate + Sync>(
 ) -> Result<(), AllocError> {
     let asked = asked(alloc, turns)?;
     let told = told(alloc, turns)?;
+    through_gate(rt, alloc, host, gate, desk, &asked, &told);
+    Ok(())
+}
+
+fn through_gate<R: Abort + Threads + Wait + Sync, H: Host + Sync, G: Gate + Sync>(
+    rt: &R,
+    alloc: Global,
+    host: &H,
+    gate: &G,
+    desk: &Desk<Eight>,
+    asked: &[u8],
+    told: &[u8],
+) {
     thread::scope(thread::scope_env(), rt, |scope| {
+        // Without a worker there is no slice.
         if scope.spawn(|| host.work(rt, alloc, gate)).is_err() {
             desk.stop(rt);
         }
-        is_served(
-            rt,
-            alloc,
-            desk,
-            "who leaves",
-            asked.as_slice(),
-            0,
-            (Ok(()), &told),
-        );
+        is_served(rt, alloc, desk, "who leaves", asked, 0, (Ok(()), told));
         desk.stop(rt);
-    });
-    Ok(())
+    })
 }
 
 // The requests of `SESSION`, whose ends stand in the answers below, and one that is not read.
