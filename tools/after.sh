@@ -3,20 +3,20 @@
 # What a tool tells is shown where it finds something. With `needs` it only looks whether what the tools need is there.
 set -u
 tools=$(cd "$(dirname "$0")" && pwd)
+told=$(mktemp)
+trap 'rm -f "$told"' EXIT
 lacking=0
 if ! python3 -c 'import sys; sys.exit(sys.version_info < (3, 9))' 2> /dev/null; then
     echo "after: no python3 of version 3.9 or later" >&2
     lacking=1
 fi
-if ! echo 'int main(void) { return 0; }' | "${CC:-cc}" -x c -o /dev/null - 2> /dev/null; then
+if ! echo 'int main(void) { return 0; }' | "${CC:-cc}" -x c -o "$told" - 2> /dev/null; then
     echo "after: no C compiler ${CC:-cc}" >&2
     lacking=1
 fi
 if [ $lacking = 1 ] || [ "${1:-}" = needs ]; then
     exit $lacking
 fi
-told=$(mktemp)
-trap 'rm -f "$told"' EXIT
 failed=0
 
 # Runs a tool for at most so many seconds. All that it started is stopped then.
