@@ -14,7 +14,7 @@ from calls import counted, library, surroundings
 
 TEST = "tests::desks::a_bench_closes"
 CLOSED = b"a bench has closed\n"
-MEMORY = b"error: Memory\n"
+MEMORY = b"Error: Memory\n"
 
 
 def run(built, words, number):

@@ -280,13 +280,32 @@ fn closes_alone<R: Abort + Wait>(
     let closed = is_closed(rt, alloc, desk, &mut first);
     closes(rt, desk, first);
     let closed = closed?;
-    second_seat(rt, alloc, desk)?;
-    let mut next = desk.open(rt, alloc, 1)?;
-    let asked = ask(rt, alloc, desk, &mut next);
-    let told = has_run(rt, alloc, desk, &mut next);
-    drop(next);
-    asked.and(told)?;
+    for seat in [2, 1] {
+        is_told_at(rt, alloc, desk, seat)?;
+    }
     Ok(closed)
+}
+
+fn is_told_at<R: Abort + Wait>(
+    rt: &R,
+    alloc: Global,
+    desk: &Desk<Two>,
+    seat: usize,
+) -> Result<(), DeskFault> {
+    let mut pass = desk.open(rt, alloc, seat)?;
+    let told = asks_and_is_told(rt, alloc, desk, &mut pass);
+    drop(pass);
+    told
+}
+
+fn asks_and_is_told<R: Abort + Wait>(
+    rt: &R,
+    alloc: Global,
+    desk: &Desk<Two>,
+    pass: &mut Pass,
+) -> Result<(), DeskFault> {
+    ask(rt, alloc, desk, pass)?;
+    has_run(rt, alloc, desk, pass)
 }
 
 // Whether the bench of a pass closes, all calls of which are refused then.
