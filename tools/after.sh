@@ -19,12 +19,11 @@ if [ $lacking = 1 ] || [ "${1:-}" = needs ]; then
 fi
 failed=0
 
-# Runs a tool for at most so many seconds. All that it started is stopped then.
-within() {
-    seconds=$1
-    shift
+# Runs a tool for at most so many seconds, of which it takes some on an idle machine. All that it started is stopped then.
+limit=1800
+after() {
     begun=$(date +%s)
-    timeout -k 10 "$seconds" "$tools/check" "$@" > "$told" 2>&1 < /dev/null
+    timeout -k 10 "$limit" "$tools/check" "$@" > "$told" 2>&1 < /dev/null
     status=$?
     took=$(($(date +%s) - begun))
     if [ $status = 0 ]; then
@@ -32,20 +31,20 @@ within() {
         return
     fi
     failed=$((failed + 1))
-    [ $status != 124 ] || echo "after: not done within $seconds seconds" >> "$told"
+    [ $status != 124 ] || echo "after: not done within $limit seconds" >> "$told"
     tail -n 40 "$told"
     echo "after: $took s: FAILED with status $status: tools/check $*"
 }
 
-within 600 refused
-within 600 refused-connection
-within 600 refused-desk
-within 600 refused-halls
-within 120 refused-threads
-within 600 model 1 60 each
-within 600 halls
-within 600 stack 1280
-within 600 stack 1280 large
+after refused
+after refused-connection
+after refused-desk
+after refused-halls
+after refused-threads
+after model 1 60 each
+after halls
+after stack 1280
+after stack 1280 large
 if [ $failed != 0 ]; then
     echo "after: $failed tools failed" >&2
     exit 1

@@ -74,6 +74,8 @@ if __name__ == "__main__":
         kind = "".join(sys.argv[4:])
         if kind not in (*KINDS, "each"):
             sys.exit(f"model: no kind {kind}")
-        for kind in KINDS if kind == "each" else [kind]:
+        kinds = KINDS if kind == "each" else [kind]
+        for kind in kinds:
             differ += compare_programs(sys.argv[1], int(sys.argv[2]), int(sys.argv[3]), kind)
+        print(f"model: {sys.argv[3]} programs of {len(kinds)} kinds and all sessions, {differ} not alike")
     sys.exit(differ > 0)
