@@ -19,7 +19,7 @@ if [ $lacking = 1 ] || [ "${1:-}" = needs ]; then
 fi
 failed=0
 
-# Runs a tool for at most so many seconds, of which it takes some on an idle machine. All that it started is stopped then.
+# Runs a tool for at most so many seconds: on an idle machine it takes a minute or less. All that it started is stopped then.
 limit=1800
 after() {
     begun=$(date +%s)
@@ -32,7 +32,7 @@ after() {
     fi
     failed=$((failed + 1))
     [ $status != 124 ] || echo "after: not done within $limit seconds" >> "$told"
-    tail -n 40 "$told"
+    grep -v '^good ' "$told" | tail -n 40
     echo "after: $took s: FAILED with status $status: tools/check $*"
 }
 
