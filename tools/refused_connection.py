@@ -1,28 +1,25 @@
-"""Runs the listening program many times, with clients at two seats at once, twice, and refuses memory once, each growth in turn.
+"""Runs the listening program many times, with clients in some rounds, and refuses memory once, each growth in turn.
 
-What a client gets has to be the greeting and the answers to its session, or a prefix of them and that memory is out, or nothing where its
-connection cannot be served at all. One of the seats is large. All clients but one have to get all: who is beside it, and who comes to the
-same seat later. Only where memory is refused before the first connection the program ends, with status 4.
+In the runs of CASES there are two clients at two seats at once, twice, one of the seats being large; or one worker and one client, and
+behind it a second one at the same seat. What a client gets has to be the greeting and the answers to its session, or a front of these
+texts and that memory is out, or nothing where its connection cannot be served at all. All clients but one have to get all: who is beside
+it, and who comes to the same seat later. Only where memory is refused before the first connection the program ends, with status 4.
 usage: refused_connection.py PROGRAM
 """
-import socket
+import os
 import subprocess
 import sys
 import tempfile
-import time
 from concurrent.futures import ThreadPoolExecutor
+from dataclasses import dataclass
 
 from calls import library, surroundings
 from greeting import Wrong, greeting_in, limits_of
+from listening import PATIENCE, at_free_port, connected
+from typed import answers_of
 
-HERE = "127.0.0.1"
-ALL_SEATS, LARGE_SEATS = 8, 1
-SEATS = (1, 2)
+SEATS = 8
 ROUNDS = 2
-CLIENTS = ROUNDS * len(SEATS)
-PATIENCE = 60.0  # seconds that a run may take
-TAKEN = 3  # the status where the port cannot be listened on
-AGAIN = 5  # how often another port is tried
 
 PROGRAM = b"""procedure M is
    protected Box is entry Get (N : out Integer); procedure Put (N : Integer); private Full : Boolean := False; Kept : Integer := 0; end Box;
@@ -42,107 +39,141 @@ BEFORE, FIRST = b"SEAT 9\nRUN 1\n", b"- E92 no such seat\n- E93 seat not claimed
 BEHIND = LOAD + b"CHOOSE 1 0 1\nRUN 30\nTASKS\nQUEUES\nVARIABLES\nADVANCE 500\nSTEP 0\nRUN 100\nOUTPUT\nSEAT 1\nRESET\nQUIT\n"
 OUT = b"- E90 out of memory\n"
 
+SMALL = b"LOAD 1\nprocedure M is begin null; end M;\nRUN 10\nSEAT 1\nQUIT\n"
+TOLD = FIRST + b"+ 1\nloaded M\n+ 1\nran 3 ended\n- E10 unknown command\n+ 0\n"
 
-def free_port():
-    with socket.socket() as found:
-        found.bind((HERE, 0))
-        return found.getsockname()[1]
+KINDS = "before a connection", "before a greeting", "a connection is cut", "not needed"
 
 
-def got(process, port, seat):
+@dataclass
+class Case:
+    """The seats that clients take at once, how many seats are large and how many workers there are, what a client asks at its seat, and
+    what is told for all that it asks, where that is known."""
+
+    seats: tuple
+    large: int
+    workers: int
+    asked: bytes
+    told: bytes = None
+
+    def clients(self):
+        return ROUNDS * len(self.seats)
+
+
+CASES = Case((1, 2), 1, 2, BEHIND), Case((1,), 0, 1, SMALL, TOLD)
+
+
+def got(process, port, seat, asked):
     """What a client is answered who takes this seat; None where the program ended first."""
-    while process.poll() is None:
+    client = connected(process, port)
+    if not client:
+        return None
+    with client:
+        found = b""
         try:
-            client = socket.create_connection((HERE, port), PATIENCE)
-        except ConnectionRefusedError:
-            time.sleep(0.002)
-            continue
-        with client:
-            found = b""
-            try:
-                client.sendall(BEFORE + b"SEAT %d\n" % seat + BEHIND)
-                while more := client.recv(65536):
-                    found += more
-            except ConnectionError:
-                # (it was closed before all was read)
-                pass
-            return found
-    return None
+            client.sendall(BEFORE + b"SEAT %d\n" % seat + asked)
+            while more := client.recv(65536):
+                found += more
+        except ConnectionError:
+            # (it was closed before all was read)
+            pass
+        return found
 
 
-def run_at(built, program, **numbers):
+def run(built, program, case, **numbers):
     """The status of the program, what it says, how many growths it made, and what each client got."""
-    port = free_port()
-    words = [program, "--seats", str(ALL_SEATS), "--large", str(LARGE_SEATS), "--workers", "2", "--port", str(port), "--connections", str(CLIENTS)]
-    with tempfile.TemporaryFile() as told, ThreadPoolExecutor(len(SEATS)) as clients:
+    return at_free_port(lambda port: run_at(built, program, case, port, **numbers))
+
+
+def run_at(built, program, case, port, **numbers):
+    words = [program, "--seats", SEATS, "--large", case.large, "--workers", case.workers, "--port", port, "--connections", case.clients()]
+    with tempfile.TemporaryFile() as told, ThreadPoolExecutor(len(case.seats)) as clients:
         around = surroundings(built, TELLS=told.fileno(), **numbers)
-        process = subprocess.Popen(words, stdin=subprocess.DEVNULL, stdout=subprocess.DEVNULL, stderr=subprocess.PIPE, env=around, pass_fds=[told.fileno()])
-        found = []
-        for _ in range(ROUNDS):
-            found += clients.map(lambda seat: got(process, port, seat), SEATS)
-        _, said = process.communicate(timeout=PATIENCE)
+        process = subprocess.Popen(list(map(str, words)), stdin=subprocess.DEVNULL, stdout=subprocess.DEVNULL, stderr=subprocess.PIPE, env=around, pass_fds=[told.fileno()])
+        try:
+            found = []
+            for _ in range(ROUNDS):
+                found += clients.map(lambda seat: got(process, port, seat, case.asked), case.seats)
+            _, said = process.communicate(timeout=PATIENCE)
+        finally:
+            process.kill()
+            process.wait()
         told.seek(0)
-        return process.returncode, said, int(told.read().split()[0]), found
+        # (a program that was stopped tells nothing)
+        return process.returncode, said, int((told.read().split() or [b"0"])[0]), found
 
 
-def run(built, program, **numbers):
-    """The same, at a port that nobody else took meanwhile."""
-    for _ in range(AGAIN):
-        ran = run_at(built, program, **numbers)
-        if ran[0] != TAKEN:
-            break
-    return ran
-
-
-def is_greeted(whole):
+def is_greeted(case, whole):
     """Whether a greeting that tells the seats' limits comes first, and then the answers."""
     try:
         limits, answers = greeting_in(whole) or ([], b"")
     except Wrong:
         return False
-    return limits == limits_of(ALL_SEATS, LARGE_SEATS) and answers.startswith(FIRST)
+    return limits == limits_of(SEATS, case.large) and (answers == case.told if case.told else answers.startswith(FIRST))
 
 
-def kind_of(whole, status, found):
+def fronts(whole):
+    """The greeting and the answers, cut behind any of them, each with that memory is out."""
+    front = b""
+    yield OUT
+    for text in answers_of(whole.splitlines(True)):
+        front += text
+        yield front + OUT
+
+
+def kind_of(case, whole, status, found):
     """What the growth was for that a run lacks."""
     if status:
-        return "before a connection"
-    if found == [whole] * CLIENTS:
-        return "not needed"
-    return "before a greeting" if any(it in (b"", OUT) for it in found) else "a connection is cut"
+        return KINDS[0]
+    if found == [whole] * case.clients():
+        return KINDS[3]
+    return KINDS[1] if any(it in (b"", OUT) for it in found) else KINDS[2]
 
 
-def is_right(whole, status, said, found):
+def is_right(whole, cuts, status, said, found):
     """Whether a run may end so where one growth is refused."""
     if (status, said) == (4, b"aud: out of memory\n"):
-        return found == [None] * CLIENTS
+        # (a client may have been connected by then)
+        return not any(found)
     cut = [it for it in found if it != whole]
-    return (status, said) == (0, b"") and len(cut) <= 1 and all(it == b"" or it and it.endswith(OUT) and whole.startswith(it[: -len(OUT)]) for it in cut)
+    return (status, said) == (0, b"") and len(cut) <= 1 and all(it == b"" or it in cuts for it in cut)
+
+
+def refused(built, program, case, runs):
+    """How many growths there are, of which kinds they are, and how many runs end otherwise."""
+    kinds, others = dict.fromkeys(KINDS, 0), 0
+    status, said, count, found = run(built, program, case)
+    whole = found[0]
+    if (status, said) != (0, b"") or found != [whole] * case.clients() or not whole or not whole.endswith(b"+ 0\n"):
+        print(f"refused: status {status}, {said!r}, {found!r}")
+        return 0, kinds, 1
+    if not is_greeted(case, whole):
+        print(f"refused: the greeting or the answers are not those that are due: {whole!r}")
+        return 0, kinds, 1
+    cuts, numbers = set(fronts(whole)), range(1, count + 1)
+    for number, (status, said, _, found) in zip(numbers, runs.map(lambda it: run(built, program, case, FAILS_GROWTH=it), numbers)):
+        kinds[kind_of(case, whole, status, found)] += 1
+        if not is_right(whole, cuts, status, said, found):
+            others += 1
+            print(f"refused: growth {number} fails: status {status}, {said!r}, {found!r}")
+    for kind in KINDS[1:3]:
+        if not kinds[kind]:
+            others += 1
+            print(f"refused: no growth was met of which is said: {kind}")
+    return count, kinds, others
 
 
 def main(program):
-    with tempfile.TemporaryDirectory() as folder, ThreadPoolExecutor(4) as runs:
+    growths, others, kinds = 0, 0, dict.fromkeys(KINDS, 0)
+    with tempfile.TemporaryDirectory() as folder, ThreadPoolExecutor(os.cpu_count()) as runs:
         built = library(folder)
-        status, said, count, found = run(built, program)
-        whole = found[0]
-        if (status, said) != (0, b"") or found != [whole] * CLIENTS or not whole.endswith(b"+ 0\n"):
-            print(f"refused: status {status}, {said!r}, {found!r}")
-            return 1
-        if not is_greeted(whole):
-            print(f"refused: the greeting is not that of the seats: {whole!r}")
-            return 1
-        others, kinds = 0, dict.fromkeys(("before a connection", "before a greeting", "a connection is cut", "not needed"), 0)
-        numbers = range(1, count + 1)
-        for number, (status, said, _, found) in zip(numbers, runs.map(lambda it: run(built, program, FAILS_GROWTH=it), numbers)):
-            kinds[kind_of(whole, status, found)] += 1
-            if not is_right(whole, status, said, found):
-                others += 1
-                print(f"refused: growth {number} fails: status {status}, {said!r}, {found!r}")
-    told = ", ".join(f"{kinds[it]} {it}" for it in kinds)
-    print(f"refused: {count} growths: {told}; {others} end otherwise")
-    if not kinds["before a greeting"]:
-        print("refused: no growth before a greeting was met")
-    return 1 if others or not kinds["before a greeting"] else 0
+        for case in CASES:
+            count, found, wrong = refused(built, program, case, runs)
+            growths, others = growths + count, others + wrong
+            kinds = {it: kinds[it] + found[it] for it in KINDS}
+    told = ", ".join(f"{kinds[it]} {it}" for it in KINDS)
+    print(f"refused: {len(CASES)} cases, {growths} growths: {told}; {others} end otherwise")
+    return 1 if others else 0
 
 
 if __name__ == "__main__":

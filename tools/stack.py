@@ -6,12 +6,11 @@ the limit of levels), or both. tools/check calls it.
 usage: stack.py PROGRAM KIBIBYTES [large]
 """
 import resource
-import socket
 import subprocess
 import sys
-import time
 
-from greeting import read_greeting
+from greeting import Wrong, read_greeting
+from listening import PATIENCE, at_free_port, connected
 
 SOURCE = 32_768  # bytes of the largest source text; at a large seat twice as many
 LINE = 1_000  # bytes that are put on a line, which may have 1,024
@@ -273,34 +272,32 @@ def limited(size):
 
 def answered(program, text, size):
     """What `aud --solo` answers, and its status."""
-    done = subprocess.run([program, "--solo"], input=asked(text), capture_output=True, preexec_fn=limited(size), timeout=60, check=False)
+    done = subprocess.run([program, "--solo"], input=asked(text), capture_output=True, preexec_fn=limited(size), timeout=PATIENCE, check=False)
     return done.stdout.decode(), done.returncode
 
 
 def answered_at_large_seat(program, text, size):
     """What a client at a large seat is answered, and the status of the program, which serves it alone."""
-    with socket.socket() as found:
-        found.bind(("127.0.0.1", 0))
-        port = found.getsockname()[1]
+    status, answer = at_free_port(lambda port: served(program, text, size, port))
+    return answer, status
+
+
+def served(program, text, size, port):
     words = [program, "--seats", "1", "--large", "1", "--workers", "1", "--connections", "1", "--port", str(port)]
     server = subprocess.Popen(words, stdin=subprocess.DEVNULL, preexec_fn=limited(size))
     try:
-        while True:
-            try:
-                client = socket.create_connection(("127.0.0.1", port), 60)
-                break
-            except ConnectionRefusedError:
-                if server.poll() is not None:
-                    return "", server.returncode
-                time.sleep(0.01)
+        client = connected(server, port)
+        if not client:
+            return server.returncode, ""
         with client:
             said = read_greeting(client)[1]
             client.sendall(b"SEAT 1\n" + asked(text))
             while piece := client.recv(1 << 16):
                 said += piece
-        return said.decode().removeprefix("+ 0\n"), server.wait(60)
+        return server.wait(PATIENCE), said.decode().removeprefix("+ 0\n")
     finally:
         server.kill()
+        server.wait()
 
 
 def is_right(answer, result):
@@ -318,16 +315,20 @@ def main(program, size, large):
     if large:
         SOURCE *= 2
         ask = answered_at_large_seat
-    failed = 0
+    count = failed = 0
     for shape, text, result in shapes():
         assert len(text) <= SOURCE and max(map(len, text.split("\n"))) < 1_024, shape
-        answer, status = ask(program, text, size)
+        try:
+            answer, status = ask(program, text, size)
+        except (OSError, Wrong, UnicodeDecodeError, subprocess.TimeoutExpired) as lost:
+            # A connection that is reset, say.
+            answer, status = f"{type(lost).__name__}: {lost}", None
         good = status == 0 and is_right(answer, result)
-        failed += not good
+        count, failed = count + 1, failed + (not good)
         print(f"{'good' if good else 'BAD '}  {size} KiB  {len(text):6} bytes  {shape}")
         if not good:
             print(f"      status {status}: {answer[:120]!r}")
-    print(f"{failed} of the shapes failed" if failed else "every shape is answered")
+    print(f"stack: {failed} of {count} shapes fail" if failed else f"stack: {count} shapes on {size} KiB are answered")
     return 1 if failed else 0
 
 

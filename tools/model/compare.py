@@ -1,6 +1,7 @@
 """Compares the answers of the model with those of sessions that are written down, and with those of `aud --solo` on programs made by
 chance. tools/check calls it, with the program, the first seed and how many seeds to take, and `tasks` where the programs may have tasks,
-`protected` where they have protected objects too, `abort` where they abort tasks besides, `requeue` where they make calls again besides."""
+`protected` where they have protected objects too, `abort` where they abort tasks besides, `requeue` where they make calls again besides,
+`each` for so many of each of these kinds."""
 import re
 import subprocess
 import sys
@@ -10,6 +11,7 @@ import chance
 import session
 
 SESSIONS = Path(__file__).resolve().parents[2] / "crates/aud_session_tests/data"
+KINDS = "", "tasks", "protected", "abort", "requeue"
 REPEATED = re.compile(r"\{(\d+) (#?)([^}]*)\}")
 
 
@@ -55,13 +57,13 @@ def compare_programs(program, first, count, kind):
         sent[behind:behind] = [f"SEAT {seed * 4_999 % 20_000:05}"] * (seed % 3 == 0)
         sent = "".join(line + "\n" for line in sent)
         wanted = session.answers(sent)
-        done = subprocess.run([program, "--solo"], input=sent, capture_output=True, text=True, encoding="latin-1")
+        done = subprocess.run([program, "--solo"], input=sent, capture_output=True, text=True, encoding="latin-1", timeout=60)
         refused += done.stdout.startswith("-")
         if done.stdout != wanted:
             other += 1
             told = zip(done.stdout.split("\n"), wanted.split("\n"))
             print(f"seed {seed}: {next((pair for pair in told if pair[0] != pair[1]), 'one ends before the other')}")
-    print(f"programs: {count - other} alike, {other} not, {refused} refused")
+    print(f"programs{kind and ' of ' + kind}: {count - other} alike, {other} not, {refused} refused")
     return other
 
 
@@ -69,5 +71,11 @@ if __name__ == "__main__":
     sys.setrecursionlimit(100_000)
     differ = compare_sessions()
     if len(sys.argv) > 1:
-        differ += compare_programs(sys.argv[1], int(sys.argv[2]), int(sys.argv[3]), "".join(sys.argv[4:]))
+        kind = "".join(sys.argv[4:])
+        if kind not in (*KINDS, "each"):
+            sys.exit(f"model: no kind {kind}")
+        kinds = KINDS if kind == "each" else [kind]
+        for kind in kinds:
+            differ += compare_programs(sys.argv[1], int(sys.argv[2]), int(sys.argv[3]), kind)
+        print(f"model: {sys.argv[3]} programs of {len(kinds)} kinds and all sessions, {differ} not alike")
     sys.exit(differ > 0)

@@ -263,7 +263,7 @@ def compared(program, first, count):
     with tempfile.TemporaryDirectory() as folder:
         file = Path(folder) / "lists.txt"
         file.write_text(lists(first, count), encoding="latin-1")
-        return subprocess.run([program, "--halls", str(file)], check=False).returncode
+        return subprocess.run([program, "--halls", str(file)], timeout=300, check=False).returncode
 
 
 def main(program, first, count):
@@ -278,7 +278,9 @@ def main(program, first, count):
     others = list(other_by_hand())
     for name in others:
         print(f"halls: the replies are not the model's: {name}")
-    return compared(program, first, count) or int(others != [])
+    status = compared(program, first, count)
+    print(f"halls: {count} lists by chance, {'answered as by the model' if status == 0 else 'not all alike'}; {len(others)} by hand are not the model's")
+    return status or int(others != [])
 
 
 if __name__ == "__main__":

@@ -5,11 +5,13 @@ ghost use Rattle.aud_text.specs.declared.limits.TheConstants.{STANDARD};
 
 use crate::tests::counted::{Counted, Noted};
 use crate::tests::finds;
+use aud_bench::bench::Work;
 use aud_connection::serve::serve;
 use aud_desk::desk::Desk;
-use aud_desk::gate::Direct;
+use aud_desk::gate::{Direct, Gate};
 use aud_desk::seating::Seating;
 use aud_hall::hall::Hall;
+use aud_hall::parcel::Parcel;
 use aud_pass::fault::DeskFault;
 use aud_pass::pass::Pass;
 use aud_server::host::Host;
@@ -21,6 +23,7 @@ use std::cell::Cell;
 use std::io::Read;
 use std::process::Abort;
 use std::sync::Wait;
+use std::sync::atomic::{AtomicU64, Ordering};
 use std::thread;
 use std::thread::Threads;
 
@@ -322,6 +325,91 @@ fn ends_behind<R: Abort + Wait>(
     let reader = Fused::new(bytes, (read as u64).saturating_add(1));
     let wanted = (Err(ServeFault::Read), told);
     is_served(rt, alloc, desk, "a read that fails", reader, 0, wanted);
+}
+
+// What is asked, and how many slices workers do for it: one for each request that a seat stores, the QUIT of who leaves among them,
+// for which alone a full journal has room.
+const LEAVING: [(&[Turn], u64); 4] = [
+    (&[(1, b"", GREETING), (1, b"RUN 1\n", NOT_CLAIMED)], 0),
+    (&[(1, b"", GREETING), (1, b"SEAT 1\n", b"+ 0\n")], 1),
+    (
+        &[
+            (1, b"", GREETING),
+            (1, b"SEAT 1\n", b"+ 0\n"),
+            (1, b"QUIT\n", b"+ 0\n"),
+        ],
+        1,
+    ),
+    (
+        &[
+            (1, b"", GREETING),
+            (1, b"SEAT 1\n", b"+ 0\n"),
+            (4_096, b"RUN 1\n", b"- E14 no program\n"),
+        ],
+        4_097,
+    ),
+];
+
+// Counts the slices.
+#[derive(Drop)]
+struct Counting {
+    slices: AtomicU64,
+}
+
+impl Gate for Counting {
+    fn slice(&self, alloc: Global, parcel: &mut Parcel, units: u64) -> Work {
+        self.slices.fetch_add(1, Ordering::SeqCst);
+        parcel.slice(alloc, units)
+    }
+}
+
+#[test]
+fn quits_where_it_ends(rt: HostRuntime) -> Result<(), AllocError> {
+    for (turns, wanted) in LEAVING {
+        let desk = desk_of_eight(rt.alloc())?;
+        let gate = Counting {
+            slices: AtomicU64::new(0),
+        };
+        let left = leaves(&rt, rt.alloc(), &desk, &gate, &desk, turns);
+        drop(desk);
+        assert!(rt; gate.slices.load(Ordering::SeqCst) == wanted);
+        left?;
+    }
+    Ok(())
+}
+
+// The session while a worker of the host, which is the desk, works through the gate until nothing is left.
+fn leaves<R: Abort + Threads + Wait + Sync, H: Host + Sync, G: Gate + Sync>(
+    rt: &R,
+    alloc: Global,
+    host: &H,
+    gate: &G,
+    desk: &Desk<Eight>,
+    turns: &[Turn],
+) -> Result<(), AllocError> {
+    let asked = asked(alloc, turns)?;
+    let told = told(alloc, turns)?;
+    through_gate(rt, alloc, host, gate, desk, &asked, &told);
+    Ok(())
+}
+
+fn through_gate<R: Abort + Threads + Wait + Sync, H: Host + Sync, G: Gate + Sync>(
+    rt: &R,
+    alloc: Global,
+    host: &H,
+    gate: &G,
+    desk: &Desk<Eight>,
+    asked: &[u8],
+    told: &[u8],
+) {
+    thread::scope(thread::scope_env(), rt, |scope| {
+        // Without a worker there is no slice.
+        if scope.spawn(|| host.work(rt, alloc, gate)).is_err() {
+            desk.stop(rt);
+        }
+        is_served(rt, alloc, desk, "who leaves", asked, 0, (Ok(()), told));
+        desk.stop(rt);
+    })
 }
 
 // The requests of `SESSION`, whose ends stand in the answers below, and one that is not read.

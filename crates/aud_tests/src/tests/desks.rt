@@ -194,6 +194,141 @@ fn a_slice_of_one_seat_is_held(rt: HostRuntime) -> Result<(), DeskFault> {
     told
 }
 
+// A worker that cannot hand a parcel over, since the desk has stopped, works it off itself, through its gate.
+#[test]
+fn a_parcel_is_kept(rt: HostRuntime) -> Result<(), DeskFault> {
+    let desk = desk_of_two(rt.alloc())?;
+    let gate = Holding::new(&rt);
+    let told = kept(&rt, rt.alloc(), &desk, &gate, &desk, &gate);
+    drop(desk);
+    assert!(rt; gate.first.load(Ordering::SeqCst) == 2);
+    told
+}
+
+fn kept<R: Abort + Threads + Clock + Wait + Sync, H: Host + Sync, G: Gate + Sync>(
+    rt: &R,
+    alloc: Global,
+    host: &H,
+    gate: &G,
+    desk: &Desk<Two>,
+    holding: &Holding<R>,
+) -> Result<(), DeskFault> {
+    thread::scope(thread::scope_env(), rt, |scope| {
+        if scope.spawn(|| host.work(rt, alloc, gate)).is_err() {
+            return Err(DeskFault::Memory);
+        }
+        let told = as_it_stops(rt, alloc, desk, holding);
+        desk.stop(rt);
+        told
+    })
+}
+
+fn as_it_stops<R: Abort + Clock + Wait>(
+    rt: &R,
+    alloc: Global,
+    desk: &Desk<Two>,
+    holding: &Holding<R>,
+) -> Result<(), DeskFault> {
+    let mut pass = desk.open(rt, alloc, 1)?;
+    // The parcel is out with the first request when the second one is sent.
+    let asked = ask(rt, alloc, desk, &mut pass);
+    desk.stop(rt);
+    holding.answered.store(true, Ordering::SeqCst);
+    let told = is_told_in_time(rt, alloc, desk, &mut pass);
+    drop(pass);
+    asked.and(told)
+}
+
+// Where a parcel is lost, this does not wait for ever.
+fn is_told_in_time<R: Abort + Clock + Wait>(
+    rt: &R,
+    alloc: Global,
+    desk: &Desk<Two>,
+    pass: &mut Pass,
+) -> Result<(), DeskFault> {
+    for _ in 0..10_000 {
+        let _ = desk.collect(rt, alloc, pass)?;
+        if pass.has_all() {
+            return has_run(rt, alloc, desk, pass);
+        }
+        thread::sleep(rt, Duration::from_millis(1));
+    }
+    assert!(rt; false, "a parcel is lost");
+    Ok(())
+}
+
+// The bench of seat 1 closes where `tools/check refused-desk` refuses memory to it, which this tells then.
+#[test]
+fn a_bench_closes(rt: HostRuntime) -> Result<(), DeskFault> {
+    let desk = desk_of_two(rt.alloc())?;
+    desk.stop(&rt);
+    let closed = closes_alone(&rt, rt.alloc(), &desk);
+    drop(desk);
+    if closed? {
+        let _ = eprintln!(&rt; "a bench has closed");
+    }
+    Ok(())
+}
+
+// Whether the bench of seat 1 closes. The other seat is told all, and so is the next one who takes seat 1.
+fn closes_alone<R: Abort + Wait>(
+    rt: &R,
+    alloc: Global,
+    desk: &Desk<Two>,
+) -> Result<bool, DeskFault> {
+    let mut first = desk.open(rt, alloc, 1)?;
+    let closed = is_closed(rt, alloc, desk, &mut first);
+    closes(rt, desk, first);
+    let closed = closed?;
+    for seat in [2, 1] {
+        is_told_at(rt, alloc, desk, seat)?;
+    }
+    Ok(closed)
+}
+
+fn is_told_at<R: Abort + Wait>(
+    rt: &R,
+    alloc: Global,
+    desk: &Desk<Two>,
+    seat: usize,
+) -> Result<(), DeskFault> {
+    let mut pass = desk.open(rt, alloc, seat)?;
+    let told = asks_and_is_told(rt, alloc, desk, &mut pass);
+    drop(pass);
+    told
+}
+
+fn asks_and_is_told<R: Abort + Wait>(
+    rt: &R,
+    alloc: Global,
+    desk: &Desk<Two>,
+    pass: &mut Pass,
+) -> Result<(), DeskFault> {
+    ask(rt, alloc, desk, pass)?;
+    has_run(rt, alloc, desk, pass)
+}
+
+// Whether the bench of a pass closes, all calls of which are refused then.
+fn is_closed<R: Abort + Wait>(
+    rt: &R,
+    alloc: Global,
+    desk: &Desk<Two>,
+    pass: &mut Pass,
+) -> Result<bool, DeskFault> {
+    let asked = ask(rt, alloc, desk, pass);
+    let _ = desk.wait(rt, alloc, pass)?;
+    if !pass.is_over() {
+        asked?;
+        has_run(rt, alloc, desk, pass)?;
+        return Ok(false);
+    }
+    let refused = desk.submit(rt, alloc, pass, Request::Output);
+    assert!(rt; refused == Err(DeskFault::Memory));
+    assert!(rt; desk.collect(rt, alloc, pass) == Err(DeskFault::Memory));
+    assert!(rt; desk.wait(rt, alloc, pass) == Err(DeskFault::Memory));
+    Ok(true)
+}
+
 // At desks without workers, which do what is sent at once.
 #[test]
 fn passes(rt: HostRuntime) -> Result<(), DeskFault> {
