@@ -15,7 +15,7 @@ use Rattle.aud_meaning.specs.Configuration.{Own, Shared, TaskAt, All, Configurat
 use Rattle.aud_meaning.specs.Control.{Controls, Seen}
 use Rattle.aud_meaning.specs.Statements.{controls}
 use Rattle.aud_meaning.specs.Parts.{owns}
-use Rattle.aud_meaning.specs.Run.{seen, seen_from, moves_at, state_at, step_with, run_with, moves_in, state_in, step, run, opening, opening_with, main_raised, supplied, advanced}
+use Rattle.aud_meaning.specs.Run.{seen_from, moves_at, state_at, step_with, run_with, moves_in, state_in, step, run, opening, opening_with, main_raised, supplied, advanced}
 use Rattle.aud_meaning.specs.Why.Limits.{IsWithin, KeepsLimits}
 use Rattle.aud_meaning.proofs.Limits.Steps.{limits_law}
 use Rattle.aud_code.specs.Places.{Spot}
@@ -26,7 +26,7 @@ use Rattle.aud_expr.specs.Size.{size}
 use Rattle.aud_layout.specs.Assembly.{flat_program}
 use Rattle.aud_layout.specs.Law.{flat}
 use Rattle.aud_layout.specs.Law as code
-use Rattle.aud_layout.proofs.Flat.Laws.{agreement_law, seen_law, moves_law, state_law, step_law, run_law, supply_law, advance_law, opening_law, raised_law}
+use Rattle.aud_layout.proofs.Flat.Laws.{seen_law, moves_law, state_law, step_law, run_law, supply_law, advance_law, opening_law, raised_law}
 use Rattle.aud_over.specs.Over.{is_named, is_served, frames_left, calls_left, forgotten, with_kept}
 use Rattle.aud_over.specs.Looks.{Looks}
 use Rattle.aud_over.specs.Law.{IsOneOf}

@@ -5,7 +5,7 @@ use Rattle.aud_typed.specs.Tree.{ObjectPlan, Plan}
 use Rattle.aud_typed.specs.Why.Scoped.{AreDistinct, HaveDistinctEntries, IsNot}
 use Rattle.aud_code.specs.Instruction.{Instruction}
 use Rattle.aud_code.specs.Flat.{Flat}
-use Rattle.aud_expr.specs.Size.{instructions_in, instructions_of_all, size}
+use Rattle.aud_expr.specs.Size.{instructions_of_all, size}
 use Rattle.aud_tasks.specs.Counting.{costs, most_among, most_ticks}
 
 -- how many instructions the barrier of a number has

@@ -1,5 +1,5 @@
 -- What is shown of a machine is what is shown of its program.
-use Rattle.std.proofs.Common.{◌≡◌, ℕ, zero, suc, List, [], ◌∷◌, ◌++◌, slice_index_or, Result, Bool, refl, sym, ap, ◌∙◌}
+use Rattle.std.proofs.Common.{◌≡◌, ℕ, suc, List, [], ◌∷◌, ◌++◌, slice_index_or, Result, Bool, refl, sym, ap, ◌∙◌}
 use Rattle.std.specs.Prelude.{codes, reverse}
 use Rattle.std.proofs.Math.Path.{fun_ext}
 use Rattle.aud_text.specs.declared.limits.Limits.{Limits}
@@ -24,7 +24,6 @@ use Rattle.aud_layout.specs.Law as code
 use Rattle.aud_layout.proofs.Flat.Laws.{agreement_law, seen_law, state_law}
 use Rattle.aud_over.proofs.Coding.{code_looks}
 use Rattle.aud_over.proofs.Left.{view_left}
-use Rattle.aud_machine.specs.Shown.{Shown}
 use Rattle.aud_machine.specs.Shows.{Shows}
 use Rattle.aud_machine.proofs.Bridges.{owns_seen}
 

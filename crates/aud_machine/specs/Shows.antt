@@ -1,10 +1,11 @@
 -- What a machine shows, and what its calls do to it.
-use Rattle.std.specs.Prelude.{◌≡◌, ℕ, ◌+◌, Option, Some, None, Result, OnErr, IsErr, true, false}
+use Rattle.std.specs.Prelude.{◌≡◌, ℕ, ◌+◌, List, Option, Some, None, Result, OnErr, IsErr, true, false}
 use Rattle.aud_text.specs.declared.limits.Limits.{Limits}
 use Rattle.aud_typed.specs.Tree.{Program}
-use Rattle.aud_meaning.specs.Configuration.{All, Configuration}
+use Rattle.aud_meaning.specs.Configuration.{Item, All, Configuration}
 use Rattle.aud_meaning.specs.declared.state.Move.{Move}
 use Rattle.aud_meaning.specs.Run.{step, run, state_in}
+use Rattle.aud_meaning.specs.Why.Open.{NoneMissed}
 use Rattle.aud_code.specs.Places.{Spot}
 use Rattle.aud_layout.specs.Law as code
 use Rattle.aud_over.specs.Over.{forgotten}
@@ -21,6 +22,10 @@ pub record Shows (m : Shown) (c : Configuration) : Type 0 where
 -- it holds of the configuration that the machine shows
 abbrev pub IfShows : Shown → (Configuration → Type 0) → Type 0
 IfShows m holds = (c : Configuration) → Shows m c → holds c
+
+-- it shows one in which no call is queued on a task's open entry
+abbrev pub MissesNone : Shown → Type 0
+MissesNone m = (c : Configuration) × Shows m c × NoneMissed (List Item) c
 
 -- what a call leaves that may need memory: the program, its code and the limits. Where memory is refused, the machine is spent, and one
 -- that is spent refuses

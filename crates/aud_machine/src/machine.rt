@@ -1,11 +1,12 @@
 // A machine and its runs.
 
-ghost use Rattle.std.specs.Prelude.{◌≡◌, ◌+◌, ◌*◌, ◌<◌, ◌≤◌, false, length, true, slice_get, IfOk, IfSome, IsErr, OnOk};
+ghost use Rattle.std.specs.Prelude.{◌≡◌, ◌+◌, ◌*◌, ◌<◌, ◌≤◌, ℕ, [], false, length, true, slice_get, IfOk, IfSome, IsErr, OnOk};
 ghost use Rattle.aud_typed.specs.Ties.View.{plain_program};
-ghost use Rattle.aud_meaning.specs.Parts.{owns};
+ghost use Rattle.aud_meaning.specs.Parts.{own_of, owns, is_task};
 ghost use Rattle.aud_meaning.specs.Run.{moves_in, state_in, main_raised, supplied, advanced, opening, opening_with};
 ghost use Rattle.aud_meaning.specs.Listings.{view, view_at};
 ghost use Rattle.aud_meaning.specs.Why.Limits.{IsWithin};
+ghost use Rattle.aud_meaning.specs.Why.Open.{IsOpen, queued_on};
 ghost use Rattle.aud_code.specs.Flat.{flat_controls};
 ghost use Rattle.aud_code.specs.Places.{Spot};
 ghost use Rattle.aud_code.specs.Starts.{AreSpots};
@@ -60,6 +61,7 @@ impl Model for Machine {
     ghost use Rattle.aud_code.specs.Places.{Spot};
     ghost use Rattle.aud_code.specs.Starts.{AreSpots};
     ghost use Rattle.aud_machine.specs.Shown.{Shown};
+    ghost use Rattle.aud_machine.specs.Shows.{MissesNone};
     ghost use Rattle.std.specs.Coded.{codes};
     ghost use Rattle.aud_typed.specs.contracts.program.Body as body;
     ghost use Rattle.aud_typed.specs.contracts.program.BooleanExpression as boolean;
@@ -79,7 +81,14 @@ impl Model for Machine {
     ghost invariant = { λ m. (m.code ≡ flat_program (plain_program m.program))
         × HaveDistinctEntries (plain_program m.program).plan.objects
         × (m.spent ≡ false → AreSpots m.code.lines m.state.tasks)
-        × (m.spent ≡ false → 1 ≤ m.limits.tasks → IsWithin Spot m.limits m.state) };
+        × (m.spent ≡ false → 1 ≤ m.limits.tasks → IsWithin Spot m.limits m.state)
+        × (m.spent ≡ false → MissesNone (record {
+          program = m.program;
+          code = m.code;
+          limits = m.limits;
+          all = m.state;
+          spent = m.spent;
+        })) };
 }
 
 impl Machine {
@@ -198,15 +207,18 @@ impl Machine {
         self.state.steps()
     }
 
-    /// All that it has: the frames, the tasks, the calls, the protected objects, the clock and the steps taken. Each
-    /// task stands where a step begins, and its limits hold of them, if the machine isn't spent: so many tasks and
-    /// objects, so many live frames of each task, and so much output. Of frames and calls that are over, nothing need
-    /// be left, and nothing of them is shown.
+    /// All that it has: the frames, the tasks, the calls, the protected objects, the clock and the steps taken. If the
+    /// machine isn't spent, each task stands where a step begins, its limits hold of them (so many tasks and objects, so
+    /// many live frames of each task, and so much output), and no call is queued on a task's open entry, one for which
+    /// the task is blocked at an accept or at an open alternative (RM 9.5.3(5)). Of frames and calls that are over,
+    /// nothing need be left, and nothing of them is shown.
     pub fn parts(&self) -> &State
         ensures all { result.now ≡ self.now.all }
         ensures within { self.now.spent ≡ false → 1 ≤ self.now.limits.tasks →
             IsWithin Spot self.now.limits result.now }
         ensures spots { self.now.spent ≡ false → AreSpots self.now.code.lines result.now.tasks }
+        ensures missed { self.now.spent ≡ false → (n entry : ℕ) → IsOpen (own_of n result.now) entry →
+            queued_on (is_task n) entry result.now.shared.calls ≡ [] }
         ensures tasks { IfShows self.now (λ c. owns result.now.tasks ≡ owns c.tasks) }
         ensures shared { IfShows self.now (λ c.
             (forgotten result.now).shared ≡ (forgotten c).shared) }

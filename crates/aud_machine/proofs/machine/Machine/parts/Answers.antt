@@ -1,6 +1,12 @@
 use Rattle.aud_machine.proofs.Bridges.{owns_shown, shared_shown}
+use Rattle.aud_machine.proofs.Missed.{none_shown}
 use Rattle.aud_machine.proofs.Views.{view_shown}
 use Rattle.aud_machine.proofs.machine.Machine.parts.Goals as goal
+
+pub returns-clause-missed : goal.returns-clause-missed
+returns-clause-missed c =
+    let inside = c.self.inside in
+    rw (← c.self.view_is) (λ alive. none_shown inside.program inside.code c.self.invariant.0 inside.limits inside.spent inside.state (c.self.invariant.4 alive))
 
 pub returns-clause-tasks : goal.returns-clause-tasks
 returns-clause-tasks c =
