@@ -15,6 +15,7 @@ use aud_code::sound_code::SoundCode;
 use aud_masters::ending::terminate;
 use aud_masters::mark::{Change, mark};
 use aud_meaning::state::{Owner, Status};
+use aud_rendezvous::cancelling::cancel;
 use aud_state::state::State;
 use aud_text::place::Pos;
 use aud_text::raise::Raise;
@@ -123,7 +124,7 @@ fn lose_call(state: &mut State, task: usize, id: usize)
         Owner::Task(_) => {}
         Owner::Object(object) => state.set_withdraw(task, object),
     }
-    state.cancel_call(id);
+    cancel(state, id);
 }
 
 // The calls queued on their entries get Tasking_Error.

@@ -1,6 +1,6 @@
 // Moves.
 
-ghost use Rattle.std.specs.Prelude.{◌≡◌, ℕ, false, Bool, Result, IfOk};
+ghost use Rattle.std.specs.Prelude.{◌≡◌, ℕ, Bool, Result, IfOk};
 ghost use Rattle.aud_text.specs.declared.raise.Raise.{Raise as RaiseOf};
 ghost use Rattle.aud_text.specs.Ties.Adds.{Adds};
 ghost use Rattle.aud_typed.specs.Tree.{Plan};
@@ -30,15 +30,12 @@ use std::alloc::{AllocError, Global};
 /// The enabled moves, one a line, by their indices: index, number and name of the task, line, the word of what it does, and the
 /// number of the alternative where the move picks one.
 pub(crate) fn moves(machine: &Machine, alloc: Global) -> Result<Lines, AllocError>
-    requires { machine.now.spent ≡ false }
     ensures { IfOk result (λ lines. IfShows machine.now (λ c.
         lines ≡ as_lines (view (program_in machine.now) c).moves)) }
 {
-    let state = machine.parts();
-    let compiled = machine.compiled();
-    let moves = aud_machine::moves::moves(state, alloc, compiled)?;
+    let moves = machine.moves(alloc)?;
     let mut page = Page::new(alloc);
-    push_moves(&mut page, state, compiled, &moves)?;
+    push_moves(&mut page, machine.parts(), machine.compiled(), &moves)?;
     Ok(page.into_lines())
 }
 

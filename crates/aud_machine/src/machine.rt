@@ -3,7 +3,7 @@
 ghost use Rattle.std.specs.Prelude.{◌≡◌, ◌+◌, ◌*◌, ◌<◌, ◌≤◌, ℕ, [], false, length, true, slice_get, IfOk, IfSome, IsErr, OnOk};
 ghost use Rattle.aud_typed.specs.Ties.View.{plain_program};
 ghost use Rattle.aud_meaning.specs.Parts.{own_of, owns, is_task};
-ghost use Rattle.aud_meaning.specs.Run.{moves_in, state_in, main_raised, supplied, advanced, opening, opening_with};
+ghost use Rattle.aud_meaning.specs.Run.{moves_at, moves_in, state_in, main_raised, supplied, advanced, opening, opening_with};
 ghost use Rattle.aud_meaning.specs.Listings.{view, view_at};
 ghost use Rattle.aud_meaning.specs.Why.Limits.{IsWithin};
 ghost use Rattle.aud_meaning.specs.Why.Open.{IsOpen, queued_on};
@@ -165,6 +165,8 @@ impl Machine {
     pub fn moves(&self, alloc: Global) -> Result<Vec<Move>, AllocError>
         ensures shown { IfOk result (λ moves. IfShows self.now (λ c.
             moves.items ≡ moves_in (program_in self.now) c)) }
+        ensures parts { IfOk result (λ moves. let plan = (program_in self.now).plan in
+            moves.items ≡ moves_at plan (flat_controls plan self.now.code) self.now.all) }
         ensures refuses { self.now.spent ≡ true → IsErr result }
     {
         if self.spent {

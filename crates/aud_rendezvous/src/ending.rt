@@ -12,6 +12,7 @@ ghost use Rattle.aud_code.specs.Control.{going};
 ghost use Rattle.aud_store.specs.Ties.Stored.{plain_open};
 
 use crate::accepting::meet;
+use crate::cancelling::cancel;
 use aud_code::sound_code::SoundCode;
 use aud_meaning::state::{Again, Owner, Pending, Restart};
 use aud_state::state::State;
@@ -139,7 +140,7 @@ fn requeue_on_task(
         alternative (owner.Task task) at id n state.old) }
 {
     if state.is_lost(id) {
-        state.cancel_call(id);
+        cancel(state, id);
         return Ok(());
     }
     if !state.is_callable(task) {

@@ -3,4 +3,5 @@
 
 pub mod accepting;
 pub mod calling;
+pub mod cancelling;
 pub mod ending;

@@ -1,11 +1,12 @@
 // The moves of one task.
 
-ghost use Rattle.std.specs.Prelude.{◌≡◌, ◌∷◌, ◌++◌, ℕ, [], length, nat_le, slice_get, OnOk};
+ghost use Rattle.std.specs.Prelude.{◌≡◌, ◌∷◌, ◌++◌, ℕ, [], length, slice_get, OnOk};
 ghost use Rattle.aud_meaning.specs.Run.{own_move, picks};
 ghost use Rattle.aud_tasks.specs.Enabled.{each_or_one, enabled_moves};
 ghost use Rattle.aud_tasks.specs.Moving.{picked};
 
 use aud_meaning::state::{Move, OpenDelay};
+use aud_select::expiring::expired;
 use std::alloc::AllocError;
 
 /// The moves that a task has: none; its next step alone; one for each of these alternatives, and its next step alone
@@ -136,20 +137,13 @@ fn pick(task: usize, alternative: usize) -> Move
     }
 }
 
-// Whether the time of a delay has come.
-fn has_ended(delay: &OpenDelay, clock: u64) -> bool
-    ensures { result ≡ nat_le delay.now.time clock }
-{
-    delay.time <= clock
-}
-
 // How many of these delays have ended.
 fn count_ended(delays: &[OpenDelay], task: usize, clock: u64) -> usize
     ensures { result ≡ length (picked task clock delays.now) }
 {
     let mut count = 0;
     for delay in delays {
-        if has_ended(delay, clock) {
+        if expired(delay, clock) {
             count += 1;
         }
     }
@@ -162,7 +156,7 @@ fn nth_ended(delays: &[OpenDelay], task: usize, clock: u64, index: usize) -> Opt
 {
     let mut left = index;
     for delay in delays {
-        if has_ended(delay, clock) {
+        if expired(delay, clock) {
             if left == 0 {
                 return Some(pick(task, delay.alternative));
             }
@@ -183,7 +177,7 @@ fn list_ended(
         moves.old.items ++ picked task clock delays.now) }
 {
     for delay in delays {
-        if has_ended(delay, clock) {
+        if expired(delay, clock) {
             moves.push(pick(task, delay.alternative))?;
         }
     }

@@ -20,4 +20,4 @@ returns c = λ go plan barrier.
           ∙ w.set_withdraw.ensures
           ∙ ap (λ o. on_own n (effect.withdraws_from go plan barrier o) old) (sym w.in-Object.is ∙ c.call_owner.ensures)
     ] in
-    c.cancel_call.ensures ∙ ap (cancels c.args.id) told
+    c.cancel.ensures ∙ ap (cancels c.args.id) told

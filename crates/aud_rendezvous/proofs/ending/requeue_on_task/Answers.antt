@@ -19,7 +19,7 @@ returns-then-is_lost c = λ plan barrier at n.
     let old = c.args.state.now in
     let again = effect.made_again go plan barrier c.args.alternative (open_alternatives (own_of task old) (call_of id old).entry) id task (on_call id (effect.called_of go plan barrier (owner.Task task)) old) in
     let failed = effect.end_call go plan barrier (fails (Predefined Tasking)) id old in
-    c.cancel_call.ensures
+    c.cancel.ensures
     ∙ ap (λ (b : Bool). if b then cancels id old else if is_callable (own_of task old) then again else failed) (sym c.if-is_lost.true ∙ c.is_lost.ensures go plan barrier)
 
 pub returns-then-not-is_callable : goal.returns-then-not-is_callable

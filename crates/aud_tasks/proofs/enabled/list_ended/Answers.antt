@@ -3,7 +3,7 @@ use Rattle.aud_meaning.specs.Run.{picks}
 use Rattle.aud_tasks.specs.Moving.{picked}
 use Rattle.aud_tasks.proofs.MoveLaws.Delays.{no_delay, listed_one, picked_none, picked_one, picked_past}
 use Rattle.aud_tasks.proofs.enabled.list_ended.Goals as goal
-use Rattle.aud_tasks.proofs.enabled.list_ended.Goals.{then-has_ended+in_ok-push, else-has_ended}
+use Rattle.aud_tasks.proofs.enabled.list_ended.Goals.{then-expired+in_ok-push, else-expired}
 
 pub loop-delay-preserved : goal.loop-delay-preserved
 loop-delay-preserved c =
@@ -11,12 +11,12 @@ loop-delay-preserved c =
     let before = c.loop-delay.moves.items in
     let here = picked c.args.task c.args.clock (drop c.loop-delay.delay-index c.args.delays.now) in
     let rest = picked c.args.task c.args.clock (drop (c.loop-delay.delay-index + 1) c.args.delays.now) in
-    elim c.if-has_ended.branch [
-      | then-has_ended+in_ok-push w ↦
-          let one = picked_one c.args.task c.args.clock c.args.delays.now c.loop-delay.delay-index (omega arith) (sym c.has_ended.ensures ∙ w.if-has_ended.true) in
+    elim c.if-expired.branch [
+      | then-expired+in_ok-push w ↦
+          let one = picked_one c.args.task c.args.clock c.args.delays.now c.loop-delay.delay-index (omega arith) (sym c.expired.ensures ∙ w.if-expired.true) in
           rw (w.moves-is, w.in_ok-push.ensures.items) (listed_one before (picks c.args.task d.alternative) rest here _ one (ap (λ m. before ++ m ∷ []) w.pick.ensures) ∙ c.loop-delay.invariant)
-      | else-has_ended w ↦
-          let none = picked_none c.args.task c.args.clock c.args.delays.now c.loop-delay.delay-index (omega arith) (sym c.has_ended.ensures ∙ w.if-has_ended.false) in
+      | else-expired w ↦
+          let none = picked_none c.args.task c.args.clock c.args.delays.now c.loop-delay.delay-index (omega arith) (sym c.expired.ensures ∙ w.if-expired.false) in
           rw w.moves-is (ap (λ l. before ++ l) (sym none) ∙ c.loop-delay.invariant)
     ]
 

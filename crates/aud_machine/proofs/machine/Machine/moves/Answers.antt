@@ -8,3 +8,8 @@ returns-clause-shown c =
     let told = rw (c.compiled.ensures.program, c.compiled.ensures.code, ← c.self.view_is) at c.moves.ensures in
     IfOk-weaker c.moves.result _ _ (λ moves told. rw (← c.self.view_is) (λ shown h.
     moves_listed inside.program inside.code c.self.invariant.0 inside.limits inside.spent inside.state shown h moves.items told)) told
+
+pub returns-clause-parts : goal.returns-clause-parts
+returns-clause-parts c =
+    let told = rw (c.compiled.ensures.program, c.compiled.ensures.code, ← c.self.view_is) at c.moves.ensures in
+    rw (← c.self.view_is) told
