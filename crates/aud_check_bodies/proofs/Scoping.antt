@@ -15,8 +15,6 @@ pub mod Operations
 pub mod Entries
 pub mod Units
 pub mod Objects
-pub mod Owning
-pub mod Leaving
 pub mod Single
 pub mod Aborts
 pub mod Requeues

@@ -1,2 +1,1 @@
-pub mod Numbers
 pub mod Scoped

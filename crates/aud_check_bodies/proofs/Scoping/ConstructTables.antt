@@ -30,7 +30,7 @@ use Rattle.aud_check_bodies.proofs.Scoping.EntryTables.{entries_grow}
 use Rattle.aud_check_bodies.proofs.Scoping.ObjectTables.{parts_grow, parts_distinct}
 
 exceptions_grow : (is : List Ident) (n : Place) (t : Tables) → Grows t (d.checked_exceptions is n t).tables
-exceptions_grow is n t = record { more_regions = []; more_profiles = []; more_tasks = []; more_entry_profiles = []; regions = sym (append-nil t.regions); profiles = sym (append-nil t.profiles); tasks = sym (append-nil t.tasks); even = omega arith; exceptions = exceptions_more is (d.exceptions_in n t.exceptions); objects = omega arith; distinct = λ z. z; stay = λ n lt. refl; entry_profiles = sym (append-nil t.entry_profiles); entries = omega arith; planned = λ n lt. refl }
+exceptions_grow is n t = record { more_regions = []; more_profiles = []; more_tasks = []; more_entry_profiles = []; regions = sym (append-nil t.regions); profiles = sym (append-nil t.profiles); tasks = sym (append-nil t.tasks); even = omega arith; exceptions = exceptions_more is (d.exceptions_in n t.exceptions); objects = omega arith; distinct = λ z. z; entry_profiles = sym (append-nil t.entry_profiles); entries = omega arith; planned = λ n lt. refl }
 
 loop_grows : (i : plain.Iteration) (n : Place) (t : Tables) → Grows t (s.loop_tables i n t)
 loop_grows plain.forever n t = same t

@@ -12,7 +12,7 @@ use Rattle.aud_typed.specs.declared.program.Subtype.{Subtype}
 use Rattle.aud_typed.specs.declared.program.Subtype.TheVariants.{Integer, Natural, Positive, Boolean}
 use Rattle.aud_typed.specs.declared.program.Exception.TheVariants as exception_of
 use Rattle.aud_typed.specs.Tree as tree
-use Rattle.aud_typed.specs.Why.Scoped.{Elaborated, Scope, none_yet, cells_at, in_innermost, declared_up_to, declared_with, scope_after, shown_cells, cells_of, all_of_table, all_formals, IsTaskEntry, StatementScoped}
+use Rattle.aud_typed.specs.Why.Scoped.{Elaborated, Scope, none_yet, cells_at, in_innermost, declared_up_to, declared_with, scope_after, shown_cells, cells_of, all_of_table, all_formals, StatementScoped}
 use Rattle.aud_fault.specs.declared.fault.Fault.{Fault}
 use Rattle.aud_names.specs.declared.names.NamedParameter.{NamedParameter}
 use Rattle.aud_names.specs.declared.names.Parameter.{Parameter}
@@ -35,7 +35,7 @@ use Rattle.aud_check_bodies.specs.Entries as entries
 use Rattle.aud_check_bodies.specs.Formals as f
 use Rattle.aud_check_bodies.specs.Regions as regions
 use Rattle.aud_check_bodies.specs.Tasks as tasks
-use Rattle.aud_check_bodies.proofs.Scoping.Names.{Known, when, IsCallable, IsTaskType, EntriesThere, PartsThere, MeaningScoped, VisibleScoped, SymbolsScoped, RegionsScoped, Fits, either, regions_more, regions_when, regions_scoped, regions_see, later, symbols_later, parts_later, regions_later}
+use Rattle.aud_check_bodies.proofs.Scoping.Names.{Known, when, IsCallable, IsTaskType, IsEntry, EntriesThere, PartsThere, MeaningScoped, VisibleScoped, SymbolsScoped, RegionsScoped, Fits, either, regions_more, regions_when, regions_scoped, regions_see, later, symbols_later, parts_later, regions_later}
 use Rattle.aud_check_bodies.proofs.Scoping.Elaborations.{Elaborates, AllCreated, none_created, one_created}
 use Rattle.aud_check_bodies.proofs.Scoping.Expressions.{initial_scoped}
 
@@ -587,19 +587,19 @@ module _ (known : Known) (outer : Scope) (full : Elaborated) where
 
   -- a task's entries are declared with its body's declarations
 
-  entry_added : (name : List ℕ) (number : ℕ) (r : Region) → IsTaskEntry known.plan number → RegionScoped known outer full r → 1 ≤ r.cells → RegionScoped known outer full (record r { symbols = r.symbols ++ (name, Entry (record { number = number; owner = Single (names.own_cell r.level) })) ∷ [] })
+  entry_added : (name : List ℕ) (number : ℕ) (r : Region) → IsEntry known number → RegionScoped known outer full r → 1 ≤ r.cells → RegionScoped known outer full (record r { symbols = r.symbols ++ (name, Entry (record { number = number; owner = Single (names.own_cell r.level) })) ∷ [] })
   entry_added name number r there h own =
       let s : Symbol = (name, Entry (record { number = number; owner = Single (names.own_cell r.level) })) in
       record {
         level = h.level;
-        symbols = λ c e more enough. All-push (λ x. MeaningScoped (when c known) (outer ++ e ∷ []) x.1) r.symbols s (h.symbols c e more enough) (there.0, (own_cell r.level e h.level (omega (arith, own, more)), there.1));
+        symbols = λ c e more enough. All-push (λ x. MeaningScoped (when c known) (outer ++ e ∷ []) x.1) r.symbols s (h.symbols c e more enough) (there, own_cell r.level e h.level (omega (arith, own, more)));
         named = omega (arith, names_shown r.symbols (s ∷ []), h.named);
         celled = omega (arith, cells_shown r.symbols (s ∷ []), h.celled);
         entries = h.entries;
         parts = h.parts;
       }
 
-  entry_scoped : (name : List ℕ) (number : ℕ) (r : Region) → IsTaskEntry known.plan number → RegionScoped known outer full r × (r.cells ≡ 1) × (r.names ≡ 1) → RegionScoped known outer full (names.with_entry name number r) × ((names.with_entry name number r).cells ≡ 1) × ((names.with_entry name number r).names ≡ 1)
+  entry_scoped : (name : List ℕ) (number : ℕ) (r : Region) → IsEntry known number → RegionScoped known outer full r × (r.cells ≡ 1) × (r.names ≡ 1) → RegionScoped known outer full (names.with_entry name number r) × ((names.with_entry name number r).cells ≡ 1) × ((names.with_entry name number r).names ≡ 1)
   entry_scoped name number r there h =
       either (λ (z : Region). RegionScoped known outer full z × (z.cells ≡ 1) × (z.names ≡ 1)) (names.is_declared name r.symbols) r _ h (entry_added name number r there h.0 (omega (arith, h.1)), h.1, h.2)
 

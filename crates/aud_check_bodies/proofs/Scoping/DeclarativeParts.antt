@@ -7,7 +7,7 @@ use Rattle.aud_syntax.specs.declared.tree.Ident.{Ident}
 use Rattle.aud_syntax.specs.Plain as plain
 use Rattle.aud_typed.specs.Tree as tree
 use Rattle.aud_typed.specs.Tree.{Plan}
-use Rattle.aud_typed.specs.Why.Scoped.{Scope, no_task, no_entry_plan, table, Elaborated, Entry, entry_of, all_formals, AreOpen, BodyScoped, UnitScoped}
+use Rattle.aud_typed.specs.Why.Scoped.{Scope, no_task, table, Elaborated, Entry, entry_of, all_formals, AreOpen, BodyScoped, UnitScoped}
 use Rattle.aud_names.specs.declared.names.NamedParameter.{NamedParameter}
 use Rattle.aud_names.specs.declared.awaited.Awaited.{Awaited}
 use Rattle.aud_names.specs.declared.array.Kind.TheVariants.{Protected}
@@ -15,7 +15,7 @@ use Rattle.aud_names.specs.declared.entries.EntryName.{EntryName}
 use Rattle.aud_names.specs.Names as names
 use Rattle.aud_names.specs.Names.{Region, Place}
 use Rattle.aud_names.specs.Rules as rules
-use Rattle.aud_check_bodies.specs.Tables.{Tables, Outcome, entry_at, no_body, region_kept, unit_kept, with_unit, task_kept}
+use Rattle.aud_check_bodies.specs.Tables.{Tables, Outcome, no_body, region_kept, unit_kept, with_unit, task_kept}
 use Rattle.aud_check_bodies.specs.Entries as declared
 use Rattle.aud_check_bodies.specs.Objects as objects
 use Rattle.aud_check_bodies.specs.Declarations as d
@@ -170,11 +170,9 @@ module _ (plan : Plan) (entries : List Entry) where
 
   -- tasks
 
-  entries_in_plan : (t : Tables) (xs : List EntryName) (u : Tables) → ((n : ℕ) → n < length u.entries → (n < length plan.entries) × (slice_index_or plan.entries n no_entry_plan ≡ tree.plan_of_entry (entry_at n u))) → Numbered xs u → EntriesThere (seen plan entries t) xs
+  entries_in_plan : (t : Tables) (xs : List EntryName) (u : Tables) → ((n : ℕ) → n < length u.entries → n < length plan.entries) → Numbered xs u → EntriesThere (seen plan entries t) xs
   entries_in_plan t [] u e h = tt
-  entries_in_plan t (x ∷ xs) u e h =
-      let there = e x.number h.0.0 in
-      ((there.0, ap (λ (z : tree.EntryPlan). z.unit) there.1 ∙ h.0.1), entries_in_plan t xs u e h.1)
+  entries_in_plan t (x ∷ xs) u e h = (e x.number h.0, entries_in_plan t xs u e h.1)
 
   -- barriers of tasks' entries are True
 
@@ -220,7 +218,7 @@ module _ (plan : Plan) (entries : List Entry) where
       } in
       let grown = further {u = es.tables} (entries_grow number xs here.regions start) (task_grows numbers es.tables) in
       let known_before = body_grown plan entries t u outer full n grown inside in
-      let all_there : EntriesThere (seen plan entries u) es.names = entries_in_plan t es.names es.tables p.entries (entries_numbered number xs here.regions start tt) in
+      let all_there : EntriesThere (seen plan entries u) es.names = entries_in_plan t es.names es.tables (λ k lt. (p.entries k lt).0) (entries_numbered number xs here.regions start tt) in
       let scoped = task_scoped (seen plan entries u) outer full at is_type i number unit es.names n begins all_there once known_before in
       let a : Awaited = record { name = i.name; task_type = number; unit = unit; at = i.at } in
       let waits : waits_in (tasks.with_task is_type i number unit before) ≡ record (waits_in before) { tasks = before.awaited ++ a ∷ [] } = task_waits is_type i number unit before once in

@@ -36,7 +36,7 @@ parts_grow name operations hidden n t =
 
 -- Each entry of an object has the next number, so none stands twice in it.
 
-abbrev pub Below : ℕ → List ℕ → Type 0
+abbrev Below : ℕ → List ℕ → Type 0
 Below k ns = AllByRecursion (λ n. n < k) ns
 
 below_more : (ns : List ℕ) (j k : ℕ) → j ≤ k → Below j ns → Below k ns
@@ -51,7 +51,7 @@ is_not_last : (n : ℕ) (ms : List ℕ) (k : ℕ) → n < k → IsNot n ms → I
 is_not_last n [] k lt h = (ne_eqb n k (λ e. omega (arith, e, lt)), tt)
 is_not_last n (m ∷ ms) k lt h = (h.0, is_not_last n ms k lt h.1)
 
-pub distinct_last : (ns : List ℕ) (k : ℕ) → Below k ns → AreDistinct ns → AreDistinct (ns ++ k ∷ [])
+distinct_last : (ns : List ℕ) (k : ℕ) → Below k ns → AreDistinct ns → AreDistinct (ns ++ k ∷ [])
 distinct_last [] k h once = (tt, tt)
 distinct_last (n ∷ ns) k h once = (is_not_last n ns k h.0 once.0, distinct_last ns k h.1 once.1)
 

@@ -1,13 +1,12 @@
 -- Protected objects and the bodies of their operations without faults use what is elaborated, or there.
-use Rattle.std.specs.List.{AllByRecursion}
-use Rattle.std.proofs.Common.{◌≡◌, ◌⊎◌, ◌+◌, ◌≤◌, ℕ, suc, true, false, List, [], ◌∷◌, ◌++◌, length, slice_index_or, Option, Some, None, arith, refl, sym, ◌∙◌, ap, subst}
-use Rattle.std.proofs.lemmas.List.{length_push, get_or_push}
+use Rattle.std.proofs.Common.{◌≡◌, ◌⊎◌, ◌+◌, ◌≤◌, ℕ, true, false, List, [], ◌∷◌, ◌++◌, length, slice_index_or, Option, Some, None, arith, refl, sym, ◌∙◌, ap, subst}
+use Rattle.std.proofs.lemmas.List.{length_push}
 use Rattle.aud_text.specs.declared.place.Pos.{Pos}
 use Rattle.aud_syntax.specs.declared.tree.Ident.{Ident}
 use Rattle.aud_syntax.specs.Plain as plain
 use Rattle.aud_typed.specs.Tree as tree
 use Rattle.aud_typed.specs.Tree.{Plan}
-use Rattle.aud_typed.specs.Why.Scoped.{Scope, none_yet, AreAround, table, Elaborated, Entry, entry_of, entry_unit, no_object, EntriesLevel, AreDistinct, all_formals, BodyScoped, UnitScoped}
+use Rattle.aud_typed.specs.Why.Scoped.{Scope, none_yet, AreAround, table, Elaborated, Entry, entry_of, AreDistinct, all_formals, BodyScoped, UnitScoped}
 use Rattle.aud_names.specs.declared.awaited.AwaitedObject.{AwaitedObject}
 use Rattle.aud_names.specs.declared.awaited.AwaitedPart.{AwaitedPart}
 use Rattle.aud_names.specs.declared.names.Access.TheVariants.{Outside, Inside, InFunction}
@@ -41,7 +40,7 @@ use Rattle.aud_check_bodies.proofs.Scoping.Units.{no_fault, found_object, no_par
 use Rattle.aud_check_bodies.proofs.Scoping.Alike.{own_frame, its_frame, parts_more}
 use Rattle.aud_check_bodies.proofs.Scoping.Operations.{PartsAre, parts_grown, parts_there, part_in_is}
 use Rattle.aud_check_bodies.proofs.Scoping.Objects as of_objects
-use Rattle.aud_check_bodies.proofs.Scoping.Objects.{Declaring, all_lengths, none_declared, operations_declared, items_declared, body_frames, both_true, fine_if, conform_length, awaited_is, common, each_same, barrier_barred}
+use Rattle.aud_check_bodies.proofs.Scoping.Objects.{Declaring, none_declared, operations_declared, items_declared, body_frames, both_true, fine_if, conform_length, awaited_is, common, each_same, barrier_barred}
 use Rattle.aud_check_bodies.proofs.Scoping.Constructs.{BodyFine, DeclarationsFine, DeclarationFine, OperationFine, BodiesFine}
 use Rattle.aud_check_bodies.proofs.Scoping.Bodies.{counted_frame, entering_fine}
 
@@ -81,14 +80,7 @@ module _ (plan : Plan) (entries : List Entry) where
             both_parts (when c (seen plan entries u)) (outer ++ e ∷ []) before.parts qs (own.parts c e more enough) (parts_there plan entries base u (scope ++ elaborated x.own ∷ []) (outer ++ e ∷ []) c number qs reach h.its are);
       } in
       let statement : tree.Statement = tree.declare_object at number x.values in
-      let object : tree.ObjectPlan = record { name = i.name; entries = x.entries } in
-      let long = length_push x.tables.objects object in
-      let planned = p.objects number (omega (arith, long, h.grows.objects)) in
-      let same : length x.tables.objects ≡ number = h.count in
-      let own_plan : slice_index_or plan.objects number no_object ≡ object = planned.1 ∙ get_or_push x.tables.objects object no_object number same in
-      let deep : length (scope ++ elaborated x.own ∷ []) ≡ suc (length (outer ++ elaborated before ∷ [])) = omega (arith, length_push scope (elaborated x.own), length_push outer full, length_push outer (elaborated before)) in
-      let levels : EntriesLevel plan entries number (outer ++ elaborated before ∷ []) = subst (λ (z : tree.ObjectPlan). AllByRecursion (λ k. length (entry_of entries (entry_unit plan k)).outer ≡ suc (length (outer ++ elaborated before ∷ []))) z.entries) (sym own_plan) (all_lengths plan entries (scope ++ elaborated x.own ∷ []) x.entries (suc (length (outer ++ elaborated before ∷ []))) deep h.levels) in
-      let elaborates : Elaborates (seen plan entries u) (outer ++ elaborated before ∷ []) (statement ∷ []) (outer ++ elaborated new ∷ []) = ((planned.0, h.values, levels), one_elaborated (seen plan entries u) outer full i.name (Protected number) before) in
+      let elaborates : Elaborates (seen plan entries u) (outer ++ elaborated before ∷ []) (statement ∷ []) (outer ++ elaborated new ∷ []) = ((omega (arith, p.objects, length_push x.tables.objects (record { name = i.name; entries = x.entries }), h.grows.objects), h.values), one_elaborated (seen plan entries u) outer full i.name (Protected number) before) in
       let frame : elaborated x.own ≡ own_frame number qs = ap elaborated h.own ∙ its_frame number level Outside qs (named_objects.object_frame n) refl refl refl in
       let stays = part_with_object plan entries base scope (waits_in before) o qs t u grown refl (omega (arith, h.grows.objects, length_push x.tables.objects (record { name = i.name; entries = x.entries }))) h.its
       (subst (λ e. PartsAre plan entries base u (scope ++ e ∷ []) number qs) frame are) h.waits h.stays part in (

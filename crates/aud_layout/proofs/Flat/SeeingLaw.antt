@@ -307,7 +307,7 @@ barriers_open plan entries levels [] [] h = tt
 barriers_open plan entries levels [] (b ∷ bs) h = absurd h
 barriers_open plan entries levels (e ∷ es) [] h = absurd h
 barriers_open plan entries levels (e ∷ es) (b ∷ bs) h =
-    (subst (λ n. AllOpen n (condition_code b)) (sym (levels e.unit)) (condition_open plan (entry_of entries e.unit).outer b h.0), barriers_open plan entries levels es bs h.1)
+    (subst (λ n. AllOpen n (condition_code b)) (sym (levels e.unit)) (condition_open (entry_of entries e.unit).outer b h.0), barriers_open plan entries levels es bs h.1)
 
 pub code_is_seen : SeenTabledLaw
 code_is_seen program seen scoped declares counts =

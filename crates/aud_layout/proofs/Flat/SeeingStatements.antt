@@ -116,12 +116,12 @@ module _ (program : Program) (seen : List ℕ) (base : ℕ) (entries : List Entr
       let u = entry_unit program.plan entry in
       is_written (slice_get B entry) (parts.unit_of program.plan u).level (λ k. k ≤ suc n) (frames_there program.plan program.plan.entries entry there) (omega (arith, long, e, levels u))
 
-  call_sees : (c : Callee) (entry : ℕ) (form : CallForm) (n : ℕ) (scope : Scope) → length scope ≡ n → entry < length program.plan.entries → CalleeScoped program.plan c scope → BodyAround program.plan entries c entry scope → EndingSees (flat_program program) T B seen (call_end c entry form) n
+  call_sees : (c : Callee) (entry : ℕ) (form : CallForm) (n : ℕ) (scope : Scope) → length scope ≡ n → entry < length program.plan.entries → CalleeScoped c scope → BodyAround program.plan entries c entry scope → EndingSees (flat_program program) T B seen (call_end c entry form) n
   call_sees (of_task t) entry form n scope e there h around = tt
   call_sees (of_object v) entry form n scope e there h around =
       (object_open v n scope e h, asked_around entry n scope e there (around_long (entry_of entries (entry_unit program.plan entry)).outer scope around.1))
 
-  requeue_sees : (c : Callee) (r : tree.Requeue) (n : ℕ) (scope : Scope) → length scope ≡ n → r.entry < length program.plan.entries → CalleeScoped program.plan c scope → BodyAround program.plan entries c r.entry scope → EndingSees (flat_program program) T B seen (requeue_end c r) n
+  requeue_sees : (c : Callee) (r : tree.Requeue) (n : ℕ) (scope : Scope) → length scope ≡ n → r.entry < length program.plan.entries → CalleeScoped c scope → BodyAround program.plan entries c r.entry scope → EndingSees (flat_program program) T B seen (requeue_end c r) n
   requeue_sees (of_task t) r n scope e there h around = tt
   requeue_sees (of_object v) r n scope e there h around =
       (object_open v n scope e h, asked_around r.entry n scope e there (around_long (entry_of entries (entry_unit program.plan r.entry)).outer scope around.1))
