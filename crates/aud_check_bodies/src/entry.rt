@@ -44,7 +44,8 @@ fn entry_formals(
         (plain_regions outer.now)).profile }
 {
     let (regions, mut region) = frame_within(own, outer)?;
-    formals(&entry.formals, &regions, &mut region, faults)
+    let own = Some(&entry.name);
+    formals(own, &entry.formals, &regions, &mut region, faults)
 }
 
 // Adds an entry of a type of tasks, which the task has not yet.

@@ -12,9 +12,9 @@ use Rattle.aud_check_bodies.specs.Objects as objects
 use Rattle.aud_check_bodies.proofs.Scoping.Tables.{Grows, same, further, unit_grows, protected_entry_grows}
 
 pub operation_grows : (object : ℕ) (is_private : Bool) (x : plain.Operation) (outer : List Region) (o : objects.ObjectDeclared) → Grows o.tables (objects.one_operation object is_private x outer o).tables
-operation_grows object is_private (plain.entry_operation e) outer o = protected_entry_grows e.name.name (objects.operation_formals e.formals o.own (objects.further_out o outer)).profile o.tables
-operation_grows object is_private (plain.procedure_operation i fs) outer o = unit_grows (objects.operation_formals fs o.own (objects.further_out o outer)).profile o.tables
-operation_grows object is_private (plain.function_operation i fs mark) outer o = unit_grows (objects.function_signature fs mark o.own (objects.further_out o outer)).0 o.tables
+operation_grows object is_private (plain.entry_operation e) outer o = protected_entry_grows e.name.name (objects.operation_formals e.name e.formals o.own (objects.further_out o outer)).profile o.tables
+operation_grows object is_private (plain.procedure_operation i fs) outer o = unit_grows (objects.operation_formals i fs o.own (objects.further_out o outer)).profile o.tables
+operation_grows object is_private (plain.function_operation i fs mark) outer o = unit_grows (objects.function_signature i fs mark o.own (objects.further_out o outer)).0 o.tables
 
 pub item_grows : (object : ℕ) (x : plain.PrivateItem) (outer : List Region) (o : objects.ObjectDeclared) → Grows o.tables (objects.one_item object x outer o).tables
 item_grows object (plain.private_operation x) outer o = operation_grows object true x outer o

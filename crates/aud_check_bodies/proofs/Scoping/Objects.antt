@@ -219,7 +219,7 @@ module _ (plan : Plan) (entries : List Entry) where
       (unit_is base x.tables frames profile (omega (arith, after, h.grows.even)) r.even (omega (arith, r.long)) its) refl refl (λ b. b)
   one_declared base t n name number frames scope x is_private (plain.function_operation i fs mark) rest after h r p =
       let profile = operation_profile (plain.function_operation i fs mark) n.regions x in
-      let s = (objects.function_signature fs mark x.own (objects.further_out x n.regions)).1 in
+      let s = (objects.function_signature i fs mark x.own (objects.further_out x n.regions)).1 in
       let its : entry_of entries (length x.tables.units) ≡ of_operation profile frames = ap (entry_of entries) (omega arith) ∙ r.each 0 (omega arith) in
       operation_added base t n name number frames scope x is_private i (part.Operation (length x.tables.units) (Function s)) (unit_kept profile x.tables) x.entries h (unit_grows profile x.tables) refl
       (unit_is base x.tables frames profile (omega (arith, after, h.grows.even)) r.even (omega (arith, r.long)) its) refl refl (λ b. b)

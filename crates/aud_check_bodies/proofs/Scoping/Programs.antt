@@ -6,7 +6,7 @@ use Rattle.aud_typed.specs.Tree as tree
 use Rattle.aud_typed.specs.Tree.{Plan}
 use Rattle.aud_typed.specs.Why.Scoped.{Elaborated, Entry, no_entry, no_entry_plan, entry_of, BooleanScoped, BarriersScoped, UnitScoped, UnitsScoped, IsScoped}
 use Rattle.aud_names.specs.Names.{Place, main_place}
-use Rattle.aud_names.specs.Rules.{program_named, right_name_at_end}
+use Rattle.aud_names.specs.Rules.{right_name_at_end}
 use Rattle.aud_check_bodies.specs.Tables.{Tables, no_body, with_unit}
 use Rattle.aud_check_bodies.specs.Statements as s
 use Rattle.aud_check_bodies.specs.Statements.{nothing_around, end_name}
@@ -51,7 +51,7 @@ typed_scoped (plain.unit context at name declarations b) q =
     let plan = (c.program_with name.name last).plan in
     let rest = in_entered declarations b nothing_around place main_tables [] in
     let entries : List Entry = no_entry ∷ rest in
-    let stated = both_none o.faults (right_name_at_end name.name (end_name b) ++ []) (both_none (program_named name.name name.at) unit.faults q).1 in
+    let stated = both_none o.faults (right_name_at_end name.name (end_name b) ++ []) q in
     let count = entered_counted false declarations b nothing_around place main_tables [] in
     let long = length-set o.tables.units 0 unit.made in
     let in_plan : InPlan plan main_tables o.tables = record { regions = λ n after before. refl; exceptions = omega arith; objects = omega arith; entries = λ n lt. (omega (arith, lt, length-map o.tables.entries tree.plan_of_entry), planned_from o.tables.entries n lt); tasks = λ n lt. (lt, refl) } in

@@ -64,7 +64,7 @@ module _ (plan : Plan) (entries : List Entry) where
       let accepted = accepts.accepted_faults (names.visible i.name n) i.at formals.profile around.accepting n t in
       let parts = both_none (formals.faults ++ accepted) (o.faults ++ []) q in
       let heads = both_none formals.faults accepted parts.0 in
-      let formed = formals_scoped known scope none_yet fs (names.accept_frame n) n.regions heads.0 (accept_scoped known scope none_yet (names.next_frame n) (in_frame known scope none_yet n refl fits).innermost) in
+      let formed = formals_scoped known scope none_yet None fs (names.accept_frame n) n.regions heads.0 (accept_scoped known scope none_yet (names.next_frame n) (in_frame known scope none_yet n refl fits).innermost) in
       let begun : elaborated formals.region ≡ all_formals (length formals.profile) = counted_frame formals.region.names formals.region.cells (length formals.profile) formed.1 formed.2 in
       let doing = f formals.region within (length formals.profile) formed.0 begun fits p r (both_none o.faults [] parts.1).0 in
       ((accepted_there (names.visible i.name n) i.at formals.profile around.accepting n t scope heads.1 (sees.visible i.name), doing.0), doing.1)
