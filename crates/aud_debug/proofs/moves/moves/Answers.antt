@@ -4,7 +4,7 @@ use Rattle.aud_debug.proofs.Ended.{page_shown, viewed}
 use Rattle.aud_debug.proofs.moves.moves.Goals as goal
 
 pub push_moves-requires : goal.push_moves-requires
-push_moves-requires c = rw (c.compiled.ensures.program, c.compiled.ensures.code, c.parts.ensures.all) c.in_ok-moves.ensures.parts
+push_moves-requires c = rw (c.deref.ensures.value, c.compiled.ensures.program, c.compiled.ensures.code, c.parts.ensures.all) c.in_ok-moves.ensures.parts
 
 pub returns : goal.returns
 returns c = λ shown h.
