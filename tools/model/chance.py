@@ -3,6 +3,8 @@ choices and a clock that goes on where it has tasks; then programs that differ f
 import random
 import re
 
+from requeues import Requeues
+
 EXCEPTIONS = ["Constraint_Error", "Program_Error", "Storage_Error", "Tasking_Error"]
 LONG = 60  # lists of statements behind which those that follow have one statement
 LINES = 400
@@ -652,6 +654,9 @@ def load(program):
 
 def session(seed, with_tasks, with_objects=False, with_aborts=False, with_requeues=False):
     """The lines that are sent."""
+    if with_requeues and seed % 4:
+        by = random.Random(seed)
+        return load(Requeues(by).program()) + requests(by, with_tasks, with_aborts) + ["QUIT"]
     program = Writer(seed, with_tasks, with_objects, with_aborts, with_requeues).program()
     while len(program) > LINES or any(len(line) > 1_000 for line in program):
         seed += 1_000_003
