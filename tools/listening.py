@@ -20,7 +20,8 @@ def connected(process, port):
     while process.poll() is None:
         try:
             return socket.create_connection((HERE, port), PATIENCE)
-        except ConnectionRefusedError:
+        except (ConnectionRefusedError, ConnectionResetError):
+            # (it does not listen yet, or has just ended)
             if until < time.monotonic():
                 raise
             time.sleep(0.002)
