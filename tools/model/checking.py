@@ -96,6 +96,7 @@ def faults(program, tokens):
     for token in tokens:
         if token.kind == "number":
             check.number(token)
+    check.unless(program.name not in TYPES and program.name not in EXCEPTIONS, 31, program.name.place)
     check.procedure(program, Within(Region(predefined())))
     return check.found
 
@@ -201,9 +202,9 @@ class Check:
             region.names.update((formal.name, Known(kind, of)) for formal in together)
 
     def procedure(self, procedure, within):
-        self.begin(within.region, [procedure.name])
         region = Region(within.region)
         self.formals(procedure.formals, region)
+        self.begin(within.region, [procedure.name])
         within.region.names[procedure.name] = Known("procedure", formals=procedure.formals)
         self.body(procedure.body, within.body(region, returns=True), procedure.name)
 
@@ -212,9 +213,9 @@ class Check:
         known = within.region.names[task.name] = Known("task type" if task.is_type else "task", unit=task)
         region = Region(within.region)
         for entry in task.entries:
-            self.begin(region, [entry.name])
             formals = Region(region)
             self.formals(entry.formals, formals)
+            self.begin(region, [entry.name])
             region.names[entry.name] = Known("entry", formals=entry.formals, unit=task, region=formals)
         self.closes(task, task.name)
         known.region = region
@@ -236,8 +237,9 @@ class Check:
             if isinstance(item, Objects):
                 self.component(item, protected, inside)
             else:
+                operation = self.operation(item, protected, region)
                 self.begin(region, [item.name])
-                region.names[item.name] = self.operation(item, protected, region)
+                region.names[item.name] = operation
         self.closes(protected, protected.name)
         within.region.names[protected.name] = Known("object", unit=protected)
         return known
@@ -265,10 +267,7 @@ class Check:
         self.closes(body, body.name)
 
     def operation_body(self, operation, declared, protected, within):
-        heading = Region(within.region)
-        if operation.kind != "entry":
-            heading.names[operation.name] = None
-        known = self.operation(operation, protected, heading)
+        known = self.operation(operation, protected, within.region)
         self.unless(not declared or self.conform(declared, known), 39, operation.name.place)
         region = Region(within.region)
         if operation.barrier:
@@ -392,6 +391,8 @@ class Check:
 
     def delay(self, delay, within):
         if delay.seconds:
+            known = within.region.find(delay.duration)
+            self.unless(not known, wrong(known), delay.duration.place)
             self.has_type(delay.seconds, "number", within)
 
     def aborted(self, name, within):

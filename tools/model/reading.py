@@ -366,8 +366,7 @@ class Reader:
             self.at += 1
             whole, _, decimals = self.tokens[self.at - 1].text.replace("_", "").partition(".")
             return Delay(int(whole + decimals.ljust(3, "0")))
-        self.take_name("DURATION")
-        return Delay(None, self.in_parentheses())
+        return Delay(None, self.take_name("DURATION"), self.in_parentheses())
 
     def select(self):
         self.take("select")

@@ -209,9 +209,10 @@ class Requeue(Placed):
 
 @dataclass
 class Delay(Placed):
-    """So many milliseconds, or the seconds that an expression tells."""
+    """So many milliseconds, or behind the name Duration the seconds that an expression tells."""
 
     milliseconds: int
+    duration: str = None
     seconds: object = None
 
 

@@ -42,13 +42,14 @@ use Rattle.aud_check_bodies.specs.declared.call.Callee.{Callee}
 use Rattle.aud_check_bodies.specs.declared.call.Callee.TheVariants as callee
 use Rattle.aud_check_bodies.specs.declared.call.Callee.TheVariants.{Procedure, Entry}
 use Rattle.aud_check_bodies.specs.Declarations.{Declared, objects_as, arrays_as, array_elaborations, task_elaborations, tasks_meant, task_type_meant, subtype_meant, arrays_kind, tasks_kind, marked}
+use Rattle.aud_check_bodies.specs.Formals.{body_formals}
 use Rattle.aud_check_bodies.specs.Entries.{Entries, no_entries, one_entry, entry_added, entry_formals, declared_entries, entries_of}
 use Rattle.aud_check_bodies.specs.Handlers.{raised_by, typed_raise, exception_meant}
 use Rattle.aud_check_bodies.specs.Programs as c
 use Rattle.aud_check_bodies.specs.Programs.{main_tables}
 use Rattle.aud_check_bodies.specs.Regions.{shown_names}
 use Rattle.aud_check_bodies.specs.Selects.{TypedAlternative, accepts, delays, terminates, alternatives_of, form_of}
-use Rattle.aud_check_bodies.specs.Statements.{checked_bodies, checked_operation, checked_operation_of, operation_around, in_accept, checked_accept, checked_doing, checked_alternative, checked_alternatives, checked_otherwise, Around, TypedStatements, sequence_of, TypedArm, arms_then, TypedHandler, handlers_of, TypedBody, body_with, typed_return, looped, begin_at, loop_place, loop_tables, labelled, handling, nothing_around, task_around, procedure_place, procedure_formals, checked_statement, checked_arms, checked_statements, checked_others, checked_body, checked_handlers, checked_declarations, checked_declaration, entered, begin_of}
+use Rattle.aud_check_bodies.specs.Statements.{checked_bodies, checked_operation, checked_operation_of, operation_around, in_accept, checked_accept, checked_doing, checked_alternative, checked_alternatives, checked_otherwise, Around, TypedStatements, sequence_of, TypedArm, arms_then, TypedHandler, handlers_of, TypedBody, body_with, typed_return, looped, begin_at, loop_place, loop_tables, labelled, handling, nothing_around, task_around, procedure_place, checked_statement, checked_arms, checked_statements, checked_others, checked_body, checked_handlers, checked_declarations, checked_declaration, entered, begin_of}
 use Rattle.aud_check_bodies.specs.Tables.{Tables, Outcome, no_body, next_region, next_task, next_object, next_unit, region_kept, region_named, with_region, unit_kept, profile_of}
 use Rattle.aud_check_bodies.specs.Tasks.{created_by, place_named, task_entries, body_tables, body_task, body_unit, task_awaited, place_behind, create_tasks, with_bodies, with_activation}
 
@@ -332,10 +333,10 @@ operation_of_good : (head : Head) (at : Pos) (i : Ident) (fs : List plain.Formal
     → ((p : Place) (u : Tables) → EachUnit u.units → Good Elaborates (checked_declarations ds p u)) → ((around : Around) (p : Place) (u : Tables) → EachUnit u.units → Good BodyIs (checked_body b around p u)) → EachUnit (checked_operation_of head at i fs ds b o awaited t).tables.units
 operation_of_good head at i fs ds b o awaited t h f g =
     let here = operation_place head o in
-    let region = (shape_of head i fs here).region in
+    let region = (shape_of head fs here).region in
     let found = part_awaited head i o awaited in
     let kept = operation_tables head found region here t in
-    let around = operation_around head i fs o.object here in
+    let around = operation_around head fs o.object here in
     let x = entered_good false b (λ further t2. checked_declarations ds further t2) (λ further t2. checked_body b around further t2) (place_in region here.regions) kept f (g around) (barrier_units found (barrier_of head region here) (operation_kept found t) (kept_units found t h)) in
     unit_set _ (operation_unit found t) _ x.units x.made
 
@@ -466,7 +467,7 @@ mutual
   declaration_good (exception first others) place t h = record { made = tt; units = h }
   declaration_good (procedure at i fs ds b) place t h =
       let here = procedure_place i place t in
-      let formals = procedure_formals i fs here in
+      let formals = body_formals fs place in
       let kept = unit_kept formals.profile t in
       let inner = place_in formals.region here.regions in
       let x = entered_good false b (λ further t2. checked_declarations ds further t2) (λ further t2. checked_body b nothing_around further t2) inner kept (λ p u k. declarations_good ds p u k) (λ p u k. body_good b nothing_around p u k) (unit_more t.units h) in

@@ -5,6 +5,7 @@ ghost use Rattle.std.specs.Prelude.{IfOk};
 ghost use Rattle.aud_syntax.specs.Ties.View.{plain_unit};
 ghost use Rattle.aud_typed.specs.Why.Scoped.{IsScoped};
 ghost use Rattle.aud_typed.specs.Ties.View.{plain_program};
+ghost use Rattle.aud_scoped.specs.Declares.{DeclaresInParts};
 ghost use Rattle.aud_check.specs.Checked.{checked};
 ghost use Rattle.aud_check.specs.Ties.Gives.{Gives};
 
@@ -27,6 +28,7 @@ use std::alloc::Global;
 pub fn check(alloc: Global, unit: &Unit) -> Result<ScopedProgram, CheckFault>
     ensures answer { Gives plain_program (checked (plain_unit unit.now)) result }
     ensures scoped { IfOk result (λ program. IsScoped (plain_program program)) }
+    ensures declares { IfOk result (λ program. DeclaresInParts (plain_program program)) }
 {
     let mut faults = Least::new();
     let program = typed(alloc, unit, &mut faults)?;

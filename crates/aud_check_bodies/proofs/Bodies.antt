@@ -22,10 +22,10 @@ use Rattle.aud_names.specs.Names.{Place, innermost, in_frame, place_in, task_pla
 use Rattle.aud_names.specs.Rules.{declared_once, right_name_at_end, right_label_at_end}
 use Rattle.aud_check_bodies.specs.Regions.{shown_names}
 use Rattle.aud_check_bodies.specs.Declarations.{Declared, nothing_declared}
-use Rattle.aud_check_bodies.specs.Formals.{Formals}
+use Rattle.aud_check_bodies.specs.Formals.{Formals, body_formals}
 use Rattle.aud_check_bodies.specs.Tasks.{with_bodies, matched_faults, body_unit, body_task, body_tables, task_awaited, place_behind, with_activation}
 use Rattle.aud_check_bodies.specs.Tables.{Tables, Outcome, fine, after, and_then, next_region, region_kept, region_named, next_unit, unit_kept, with_unit}
-use Rattle.aud_check_bodies.specs.Statements.{Around, labelled, begin_at, iteration_faults, loop_place, loop_tables, looped, begin_of, end_name, end_semicolon, procedure_place, procedure_formals, body_with, TypedStatements, TypedHandler, TypedBody, sequence_of, handlers_of, checked_statement, checked_loop, checked_statements, checked_body, checked_declaration, checked_declarations, entered_body, body_behind, around_unit, checked_unit}
+use Rattle.aud_check_bodies.specs.Statements.{Around, labelled, begin_at, iteration_faults, loop_place, loop_tables, looped, begin_of, end_name, end_semicolon, procedure_place, body_with, TypedStatements, TypedHandler, TypedBody, sequence_of, handlers_of, checked_statement, checked_loop, checked_statements, checked_body, checked_declaration, checked_declarations, entered_body, body_behind, around_unit, checked_unit}
 use Rattle.aud_check_bodies.specs.Ties.Arms.{plain_handlers, plain_parts, plain_sequence}
 use Rattle.aud_check_bodies.specs.Ties.DeclarativePart.{Declares}
 use Rattle.aud_names.specs.Ties.Regions.{plain_place}
@@ -134,29 +134,29 @@ unit_left old stated new t u of_task at name ds b place x y h q f =
     let next : tree.Body → Tables → Outcome tree.UnitBody = λ v w. after (right_name_at_end name (end_name b)) (fine (unit v) w) in
     is_then old stated new u u x y whole next h (is_after stated new new u y (right_name_at_end name (end_name b)) (fine (unit x) u) q (is_fine new u y (unit x) f))
 
--- a procedure's name, its formals and its body
-pub procedure_left : (old named formed new : Option Fault) (outer : List (Bor Region)) (first last : DeclarativePart) (t entry u end : Tables) (at : Pos) (i : Ident) (fs : List m.Formal) (ds : m.Declarations) (b : m.Body) (inner : Place) (x : tree.UnitBody)
-    → named ≡ noted old (declared_once i.name i.at (innermost (plain_place first.region outer)).symbols)
+-- a procedure's formals, its name and its body
+pub procedure_left : (old formed named new : Option Fault) (outer : List (Bor Region)) (first last : DeclarativePart) (t entry u end : Tables) (at : Pos) (i : Ident) (fs : List m.Formal) (ds : m.Declarations) (b : m.Body) (inner : Place) (x : tree.UnitBody)
+    → formed ≡ noted old (body_formals fs (plain_place first.region outer)).faults
+    → named ≡ noted formed (declared_once i.name i.at (innermost (plain_place first.region outer)).symbols)
     → plain_place last.region outer ≡ procedure_place i (plain_place first.region outer) t
     → last.elaborations ≡ first.elaborations
-    → formed ≡ noted named (procedure_formals i fs (procedure_place i (plain_place first.region outer) t)).faults
-    → inner ≡ place_in (procedure_formals i fs (procedure_place i (plain_place first.region outer) t)).region (procedure_place i (plain_place first.region outer) t).regions
-    → entry ≡ unit_kept (procedure_formals i fs (procedure_place i (plain_place first.region outer) t)).profile t
-    → Is formed new u x (checked_unit false at i.name ds b inner entry)
+    → inner ≡ place_in (body_formals fs (plain_place first.region outer)).region (procedure_place i (plain_place first.region outer) t).regions
+    → entry ≡ unit_kept (body_formals fs (plain_place first.region outer)).profile t
+    → Is named new u x (checked_unit false at i.name ds b inner entry)
     → end ≡ with_unit (next_unit t) x u
     → Declares old new outer first last end (checked_declaration (m.procedure at i fs ds b) (plain_place first.region outer) t)
-procedure_left old named formed new outer first last t entry u end at i fs ds b inner x p q l f e k h g =
+procedure_left old formed named new outer first last t entry u end at i fs ds b inner x f p q l e k h g =
     let place : Place = plain_place first.region outer in
     let here : Place = procedure_place i place t in
-    let formals : Formals = procedure_formals i fs here in
+    let formals : Formals = body_formals fs place in
     let once : List Fault = declared_once i.name i.at (innermost place).symbols in
     let own : Place → Tables → Outcome tree.UnitBody = λ z w. checked_unit false at i.name ds b z w in
     let whole : Outcome tree.UnitBody = own (place_in formals.region here.regions) (unit_kept formals.profile t) in
     let next : tree.UnitBody → Tables → Outcome Declared = λ v w. fine (nothing_declared here) (with_unit (next_unit t) v w) in
-    let checked : Is formed new u x whole = subst (λ z. Is formed new u x (own z (unit_kept formals.profile t))) e (subst (λ w. Is formed new u x (own inner w)) k h) in
-    let heads : formed ≡ noted old (once ++ formals.faults) = noted_then old named formed once formals.faults p f in
-    let declared : Is formed new end (nothing_declared here) (and_then whole next) = is_then formed new new u end x (nothing_declared here) whole next checked (refl, g, refl) in
-    let all : Is old new end (nothing_declared here) (checked_declaration (m.procedure at i fs ds b) place t) = is_after old formed new end (nothing_declared here) (once ++ formals.faults) (and_then whole next) heads declared in
+    let checked : Is named new u x whole = subst (λ z. Is named new u x (own z (unit_kept formals.profile t))) e (subst (λ w. Is named new u x (own inner w)) k h) in
+    let heads : named ≡ noted old (formals.faults ++ once) = noted_then old formed named formals.faults once f p in
+    let declared : Is named new end (nothing_declared here) (and_then whole next) = is_then named new new u end x (nothing_declared here) whole next checked (refl, g, refl) in
+    let all : Is old new end (nothing_declared here) (checked_declaration (m.procedure at i fs ds b) place t) = is_after old named new end (nothing_declared here) (formals.faults ++ once) (and_then whole next) heads declared in
     (all.0, q, ap (λ z. plain_typed_statements z.items) l ∙ sym (append-nil _), all.1)
 
 -- the body of a task, whose unit is found

@@ -181,7 +181,7 @@ same_region_row = refl
 abbrev with_mark : List ℕ → Unit
 with_mark type = main (task_t false (entry_f ∷ record { name = id (codes "E") (at 2 70); formals = one_formal (codes "N") (at 2 72) Unstated type (at 2 76) ∷ [] } ∷ []) ∷ body_of_t [] nothing ∷ []) nothing
 
--- an entry is not visible in its own formals; those before it are, and the task is
+-- in its own formals an entry is not declared yet; those before it are, and the task is
 own_mark_row : faults (with_mark (codes "E")) ≡ fault (at 2 76) NameNotDeclared ∷ []
 own_mark_row = refl
 

@@ -48,12 +48,12 @@ operation_opened (kind.Function mark) at i fs ds b o awaited t = refl
 
 -- its declarations and statements, and the name after its end
 pub operation_unit_left : (old stated new : Option Fault) (t u : Tables) (head : Head) (at : Pos) (i : Ident) (fs : List m.Formal) (ds : m.Declarations) (b : m.Body) (number : ℕ) (here place : Place) (x : tree.Body) (y : tree.UnitBody)
-    → Is old stated u x (entered_body false ds b (operation_around head i fs number here) place t)
+    → Is old stated u x (entered_body false ds b (operation_around head fs number here) place t)
     → new ≡ noted stated (right_name_at_end i.name (end_name b))
     → y ≡ record { level = (innermost place).level; region = next_region t; is_function = is_function_head head; at = at; body = x }
     → Is old new u y (checked_operation_unit head at i fs ds b number here place t)
 operation_unit_left old stated new t u head at i fs ds b number here place x y h q f =
-    let whole : Outcome tree.Body = entered_body false ds b (operation_around head i fs number here) place t in
+    let whole : Outcome tree.Body = entered_body false ds b (operation_around head fs number here) place t in
     let unit : tree.Body → tree.UnitBody = λ v. record { level = (innermost place).level; region = next_region t; is_function = is_function_head head; at = at; body = v } in
     let next : tree.Body → Tables → Outcome tree.UnitBody = λ v w. after (right_name_at_end i.name (end_name b)) (fine (unit v) w) in
     is_then old stated new u u x y whole next h (is_after stated new new u y (right_name_at_end i.name (end_name b)) (fine (unit x) u) q (is_fine new u y (unit x) f))
@@ -61,8 +61,8 @@ operation_unit_left old stated new t u head at i fs ds b number here place x y h
 -- what is checked before them, and the operations that wait still
 pub operation_left : (old headed new : Option Fault) (t entry u end : Tables) (head : Head) (at : Pos) (i : Ident) (fs : List m.Formal) (ds : m.Declarations) (b : m.Body) (o : BodyPlaces) (awaited still : List AwaitedPart) (inner : Place) (x : tree.UnitBody)
     → headed ≡ noted old (operation_faults head (part_awaited head i o awaited) i fs (operation_place head o) t)
-    → inner ≡ place_in (shape_of head i fs (operation_place head o)).region (operation_place head o).regions
-    → entry ≡ operation_tables head (part_awaited head i o awaited) (shape_of head i fs (operation_place head o)).region (operation_place head o) t
+    → inner ≡ place_in (shape_of head fs (operation_place head o)).region (operation_place head o).regions
+    → entry ≡ operation_tables head (part_awaited head i o awaited) (shape_of head fs (operation_place head o)).region (operation_place head o) t
     → Is headed new u x (checked_operation_unit head at i fs ds b o.object (operation_place head o) inner entry)
     → still ≡ still_awaited (part_awaited head i o awaited) awaited
     → end ≡ with_unit (operation_unit (part_awaited head i o awaited) t) x u
@@ -70,7 +70,7 @@ pub operation_left : (old headed new : Option Fault) (t entry u end : Tables) (h
 operation_left old headed new t entry u end head at i fs ds b o awaited still inner x p e k h l g =
     let here : Place = operation_place head o in
     let found : Option PartKind = part_awaited head i o awaited in
-    let region = (shape_of head i fs here).region in
+    let region = (shape_of head fs here).region in
     let own : Place → Tables → Outcome tree.UnitBody = λ z w. checked_operation_unit head at i fs ds b o.object here z w in
     let whole : Outcome tree.UnitBody = own (place_in region here.regions) (operation_tables head found region here t) in
     let next : tree.UnitBody → Tables → Outcome (List AwaitedPart) = λ v w. fine (still_awaited found awaited) (with_unit (operation_unit found t) v w) in
@@ -85,8 +85,8 @@ at_place object parts here = record { object = object; parts = parts; inside = h
 
 pub operation_left_here : (old headed new : Option Fault) (t entry u end : Tables) (head : Head) (at : Pos) (i : Ident) (fs : List m.Formal) (ds : m.Declarations) (b : m.Body) (object : ℕ) (parts : List ObjectPart) (here : Place) (awaited still : List AwaitedPart) (inner : Place) (x : tree.UnitBody)
     → headed ≡ noted old (operation_faults head (part_awaited head i (at_place object parts here) awaited) i fs here t)
-    → inner ≡ place_in (shape_of head i fs here).region here.regions
-    → entry ≡ operation_tables head (part_awaited head i (at_place object parts here) awaited) (shape_of head i fs here).region here t
+    → inner ≡ place_in (shape_of head fs here).region here.regions
+    → entry ≡ operation_tables head (part_awaited head i (at_place object parts here) awaited) (shape_of head fs here).region here t
     → Is headed new u x (checked_operation_unit head at i fs ds b object here inner entry)
     → still ≡ still_awaited (part_awaited head i (at_place object parts here) awaited) awaited
     → end ≡ with_unit (operation_unit (part_awaited head i (at_place object parts here) awaited) t) x u

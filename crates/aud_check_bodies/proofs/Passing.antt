@@ -3,7 +3,6 @@ use Rattle.std.specs.Prelude.{ℕ, nat_eq, false, List, [], ◌∷◌, ◌++◌,
 use Rattle.std.proofs.Math.Dec.{eqb-zero-suc, eqb-suc-zero, eqb-suc-suc}
 use Rattle.std.proofs.Common.{◌≡◌, ◌+◌, ◌<◌, add-one, drop, get_or, refl, sym, ◌∙◌, ap, append_assoc, append-nil}
 use Rattle.std.proofs.Math.Seq.{drop-cons}
-use Rattle.aud_syntax.specs.declared.tree.Ident.{Ident}
 use Rattle.aud_syntax.specs.declared.tree.Expression.{Expression}
 use Rattle.aud_syntax.specs.declared.tree.Term.{Term, out-Term}
 use Rattle.aud_syntax.specs.declared.tree.Multiplied.{Multiplied}
@@ -136,24 +135,24 @@ passed_ends place old now all fs fs0 es0 p a = (
 
 -- formals that are still to be declared, behind those that were
 
-pub record FormalsAhead (now : Option Fault) (r : Region) (before : List NamedParameter) (own : Option Ident) (fs : List m.Formal) (outer : List Region) (old : Option Fault) (all : Formals) : Type 0 where
-  pub faults : noted now (checked_formals own fs r outer).faults ≡ noted old all.faults
-  pub region : (checked_formals own fs r outer).region ≡ all.region
-  pub profile : before ++ (checked_formals own fs r outer).profile ≡ all.profile
+pub record FormalsAhead (now : Option Fault) (r : Region) (before : List NamedParameter) (fs : List m.Formal) (outer : List Region) (old : Option Fault) (all : Formals) : Type 0 where
+  pub faults : noted now (checked_formals fs r outer).faults ≡ noted old all.faults
+  pub region : (checked_formals fs r outer).region ≡ all.region
+  pub profile : before ++ (checked_formals fs r outer).profile ≡ all.profile
 
-pub formals_begin : (old : Option Fault) (r : Region) (profile : List NamedParameter) (own : Option Ident) (fs : List m.Formal) (outer : List Region) → profile ≡ [] → FormalsAhead old r profile own fs outer old (checked_formals own fs r outer)
-formals_begin old r profile own fs outer e = record { faults = refl; region = refl; profile = ap (λ l. l ++ (checked_formals own fs r outer).profile) e }
+pub formals_begin : (old : Option Fault) (r : Region) (profile : List NamedParameter) (fs : List m.Formal) (outer : List Region) → profile ≡ [] → FormalsAhead old r profile fs outer old (checked_formals fs r outer)
+formals_begin old r profile fs outer e = record { faults = refl; region = refl; profile = ap (λ l. l ++ (checked_formals fs r outer).profile) e }
 
 -- one more is declared
-pub formals_ahead : (own : Option Ident) (outer : List Region) (old mid new : Option Fault) (r s : Region) (before profile : List NamedParameter) (all : Formals) (f : m.Formal) (fs gs : List m.Formal) → gs ≡ f ∷ fs
-    → FormalsAhead mid r before own gs outer old all
-    → (new ≡ noted mid (checked_formal own f r outer).faults) × (s ≡ (checked_formal own f r outer).region) × (profile ≡ before ++ (checked_formal own f r outer).profile)
-    → FormalsAhead new s profile own fs outer old all
-formals_ahead own outer old mid new r s before profile all f fs gs p a d =
-    let one : Formals = checked_formal own f r outer in
-    let rest : Region → Formals = λ z. checked_formals own fs z outer in
+pub formals_ahead : (outer : List Region) (old mid new : Option Fault) (r s : Region) (before profile : List NamedParameter) (all : Formals) (f : m.Formal) (fs gs : List m.Formal) → gs ≡ f ∷ fs
+    → FormalsAhead mid r before gs outer old all
+    → (new ≡ noted mid (checked_formal f r outer).faults) × (s ≡ (checked_formal f r outer).region) × (profile ≡ before ++ (checked_formal f r outer).profile)
+    → FormalsAhead new s profile fs outer old all
+formals_ahead outer old mid new r s before profile all f fs gs p a d =
+    let one : Formals = checked_formal f r outer in
+    let rest : Region → Formals = λ z. checked_formals fs z outer in
     let same : rest s ≡ rest one.region = ap rest d.1 in
-    let whole : checked_formals own gs r outer ≡ checked_formals own (f ∷ fs) r outer = ap (λ l. checked_formals own l r outer) p in
+    let whole : checked_formals gs r outer ≡ checked_formals (f ∷ fs) r outer = ap (λ l. checked_formals l r outer) p in
     record {
       faults = ap (λ (z : Formals). noted new z.faults) same ∙ ap (λ o. noted o (rest one.region).faults) d.0 ∙ sym (noted_append mid one.faults (rest one.region).faults) ∙ sym (ap (λ (z : Formals). noted mid z.faults) whole) ∙ a.faults;
       region = ap (λ (z : Formals). z.region) same ∙ sym (ap (λ (z : Formals). z.region) whole) ∙ a.region;
@@ -161,9 +160,9 @@ formals_ahead own outer old mid new r s before profile all f fs gs p a d =
     }
 
 -- all are declared
-pub formals_end : (own : Option Ident) (outer : List Region) (old now : Option Fault) (r : Region) (profile : List NamedParameter) (all : Formals) (fs : List m.Formal) → fs ≡ [] → FormalsAhead now r profile own fs outer old all → (now ≡ noted old all.faults) × (r ≡ all.region) × (profile ≡ [] ++ all.profile)
-formals_end own outer old now r profile all fs p a =
-    let end : checked_formals own fs r outer ≡ checked_formals own [] r outer = ap (λ l. checked_formals own l r outer) p in (
+pub formals_end : (outer : List Region) (old now : Option Fault) (r : Region) (profile : List NamedParameter) (all : Formals) (fs : List m.Formal) → fs ≡ [] → FormalsAhead now r profile fs outer old all → (now ≡ noted old all.faults) × (r ≡ all.region) × (profile ≡ [] ++ all.profile)
+formals_end outer old now r profile all fs p a =
+    let end : checked_formals fs r outer ≡ checked_formals [] r outer = ap (λ l. checked_formals l r outer) p in (
       sym (ap (λ (z : Formals). noted now z.faults) end) ∙ a.faults,
       sym (ap (λ (z : Formals). z.region) end) ∙ a.region,
       sym (append-nil profile) ∙ sym (ap (λ (z : Formals). profile ++ z.profile) end) ∙ a.profile,

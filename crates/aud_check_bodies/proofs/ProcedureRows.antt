@@ -141,9 +141,30 @@ itself_row = refl
 
 -- Names.
 
--- procedure Integer (N : Integer): its own name is hidden from all visibility, and hides the outer one
-own_name_row : faults (main (procedure (at 2 1) (id (codes "INTEGER") (at 2 11)) (one_formal (codes "N") (at 2 20) Unstated (codes "INTEGER") (at 2 24) ∷ []) (declarations []) (own_body (null (at 3 7))) ∷ []) (null (at 6 1))) ≡ fault (at 2 24) NameNotDeclared ∷ []
+-- procedure Integer (N : Integer): its scope begins behind its formals, so the type is visible there
+own_name_row : faults (main (procedure (at 2 1) (id (codes "INTEGER") (at 2 11)) (one_formal (codes "N") (at 2 20) Unstated (codes "INTEGER") (at 2 24) ∷ []) (declarations []) (own_body (null (at 3 7))) ∷ []) (null (at 6 1))) ≡ []
 own_name_row = refl
+
+-- behind it the name is that of the procedure
+behind_row : faults (main (procedure (at 2 1) (id (codes "INTEGER") (at 2 11)) [] (declarations []) (own_body (null (at 3 7))) ∷ a_v ∷ []) (null (at 6 1))) ≡ fault (at 1 24) WrongKindOfName ∷ []
+behind_row = refl
+
+-- procedure P (N : P): P is not declared there, but it is in another P within it
+own_mark_row : faults (main (p_of (one_formal (codes "N") (at 2 14) Unstated (codes "P") (at 2 18) ∷ []) ∷ []) (null (at 6 1))) ≡ fault (at 2 18) NameNotDeclared ∷ []
+own_mark_row = refl
+
+within_row : faults (main (p_with [] (p_of (one_formal (codes "N") (at 2 14) Unstated (codes "P") (at 2 18) ∷ []) ∷ []) (null (at 3 7)) ∷ []) (null (at 6 1))) ≡ fault (at 2 18) WrongKindOfName ∷ []
+within_row = refl
+
+-- a program with the name of a type or an exception
+type_row : faults (unit [] (at 1 1) (id (codes "INTEGER") (at 1 11)) (declarations []) (main_body (null (at 6 1)) no_handlers)) ≡ fault (at 1 11) DeclaredTwice ∷ []
+type_row = refl
+
+exception_row : faults (unit [] (at 1 1) (id (codes "TASKING_ERROR") (at 1 11)) (declarations []) (main_body (null (at 6 1)) no_handlers)) ≡ fault (at 1 11) DeclaredTwice ∷ []
+exception_row = refl
+
+put_row : faults (unit [] (at 1 1) (id (codes "PUT") (at 1 11)) (declarations []) (main_body (null (at 6 1)) no_handlers)) ≡ []
+put_row = refl
 
 -- procedure P (P : Integer; N : P): the formal hides the procedure, and is no subtype
 formal_hides_row : faults (main (p_of (one_formal (codes "P") (at 2 14) Unstated (codes "INTEGER") (at 2 18) ∷ one_formal (codes "N") (at 2 27) Unstated (codes "P") (at 2 31) ∷ []) ∷ []) (null (at 6 1))) ≡ fault (at 2 31) WrongKindOfName ∷ []

@@ -15,6 +15,8 @@ pub mod Operations
 pub mod Entries
 pub mod Units
 pub mod Objects
+pub mod Owning
+pub mod Leaving
 pub mod Single
 pub mod Aborts
 pub mod Requeues

@@ -46,7 +46,7 @@ quarter = delay_real (at 7 1) (real (Some 250))
 delay_row : left (does_here (delaying quarter)) ≡ tree.delay (at 7 1) (tree.milliseconds 2250) ∷ tree.null (at 5 7) ∷ []
 delay_row = refl
 
-duration_row : left (does_here (delaying (delay_duration (at 7 1) (only (num 3 (at 7 17)))))) ≡ tree.delay (at 7 1) (tree.seconds (tree.number (pos 3))) ∷ tree.null (at 5 7) ∷ []
+duration_row : left (does_here (delaying (delay_duration (at 7 1) (at 7 7) (only (num 3 (at 7 17)))))) ≡ tree.delay (at 7 1) (tree.seconds (tree.number (pos 3))) ∷ tree.null (at 5 7) ∷ []
 duration_row = refl
 
 decimals_row : faults (does_here (delaying (delay_real (at 7 1) (real None)))) ≡ fault (at 7 7) TooManyDecimals ∷ []
@@ -55,8 +55,12 @@ decimals_row = refl
 large_row : faults (does_here (delaying (delay_real (at 7 1) (record { whole = None; thousandths = Some 5; at = at 7 7 })))) ≡ fault (at 7 7) NumberTooLarge ∷ []
 large_row = refl
 
-duration_type_row : faults (does_here (delaying (delay_duration (at 7 1) (only (var (codes "TRUE") (at 7 17)))))) ≡ fault (at 7 17) WrongType ∷ []
+duration_type_row : faults (does_here (delaying (delay_duration (at 7 1) (at 7 7) (only (var (codes "TRUE") (at 7 17)))))) ≡ fault (at 7 17) WrongType ∷ []
 duration_type_row = refl
+
+-- in a program of that name
+hidden_duration_row : faults (unit [] (at 1 1) (id (codes "DURATION") (at 1 11)) (declarations []) (body (at 6 1) (statements (delaying (delay_duration (at 7 1) (at 7 7) (only (num 1 (at 7 17))))) []) no_handlers (at 9 1) None (at 9 4))) ≡ fault (at 7 7) WrongKindOfName ∷ []
+hidden_duration_row = refl
 
 -- Timed and conditional calls.
 
@@ -99,7 +103,7 @@ unknown_row = refl
 abbrev select_t : Statement
 select_t =
     select_accept (at 5 7) (an_expression (only (var (codes "TRUE") (at 5 20)))) (accept_alternative (accept (at 5 30) (id (codes "F") (at 5 37)) [] without_do) (more_statements (null (at 5 40)) no_statements))
-    (more_alternatives no_expression (delay_alternative (delay_duration (at 5 50) (only (num 1 (at 5 60)))) no_statements) (more_alternatives (an_expression (only (var (codes "FALSE") (at 5 65)))) terminate_alternative no_alternatives)) (more_statements (null (at 5 80)) no_statements)
+    (more_alternatives no_expression (delay_alternative (delay_duration (at 5 50) (at 5 54) (only (num 1 (at 5 60)))) no_statements) (more_alternatives (an_expression (only (var (codes "FALSE") (at 5 65)))) terminate_alternative no_alternatives)) (more_statements (null (at 5 80)) no_statements)
 
 select_row : left (does_in_task select_t)
     ≡ tree.null (at 7 1)

@@ -18,7 +18,7 @@ use Rattle.aud_check_bodies.specs.Formals.{Formals, checked_formals}
 
 -- the formals of an accept have a frame of their own, in which its statements lie (RM 9.5.2)
 abbrev pub accept_formals : List Formal → Place → Formals
-accept_formals fs place = checked_formals None fs (accept_frame place) place.regions
+accept_formals fs place = checked_formals fs (accept_frame place) place.regions
 
 -- the entry that a name stands for
 abbrev pub entry_meant : Option Meaning → Option Entry

@@ -1,13 +1,15 @@
 -- Delays (RM 9.6).
-use Rattle.std.specs.Prelude.{ℕ, ◌+◌, ◌*◌, ℤ, nat_abs, List, [], ◌++◌, Option, Some, None}
+use Rattle.std.specs.Prelude.{ℕ, ◌+◌, ◌*◌, ℤ, nat_abs, List, [], ◌++◌, Option, Some, None, codes}
 use Rattle.aud_text.specs.declared.place.Pos.{Pos}
 use Rattle.aud_syntax.specs.declared.tree.Real.{Real}
 use Rattle.aud_syntax.specs.Plain.{Expression, Delay, delay_real, delay_duration}
 use Rattle.aud_typed.specs.Tree as tree
 use Rattle.aud_fault.specs.declared.fault.Fault.{Fault}
 use Rattle.aud_names.specs.declared.rules.Base.TheVariants.{Whole}
-use Rattle.aud_names.specs.Names.{Place}
+use Rattle.aud_names.specs.declared.names.Meaning.{Meaning}
+use Rattle.aud_names.specs.Names.{Place, visible}
 use Rattle.aud_names.specs.Rules.{number_too_large, too_many_decimals}
+use Rattle.aud_names.specs.Resolution.{value_faults}
 use Rattle.aud_typing.specs.Expressions.{checked_expression, expression_at, wants}
 use Rattle.aud_check_bodies.specs.Declarations.{integer_of}
 
@@ -42,15 +44,20 @@ seconds_faults e place = (checked_expression e place).faults ++ wants Whole (exp
 abbrev pub typed_seconds : Expression → Place → tree.DelayExpression
 typed_seconds e place = tree.seconds (integer_of (checked_expression e place).typed)
 
+-- the type is declared in Standard, where any declaration of its name hides it (RM 8.3(15)); at the name
+abbrev pub duration_faults : Option Meaning → Pos → List Fault
+duration_faults None at = []
+duration_faults (Some m) at = value_faults m at
+
 -- where it stands
 abbrev pub delay_at : Delay → Pos
 delay_at (delay_real at r) = at
-delay_at (delay_duration at e) = at
+delay_at (delay_duration at named e) = at
 
 abbrev pub delay_faults : Delay → Place → List Fault
 delay_faults (delay_real at r) place = real_faults r
-delay_faults (delay_duration at e) place = seconds_faults e place
+delay_faults (delay_duration at named e) place = duration_faults (visible (codes "DURATION") place) named ++ seconds_faults e place
 
 abbrev pub typed_delay : Delay → Place → tree.DelayExpression
 typed_delay (delay_real at r) place = tree.milliseconds (milliseconds_of r)
-typed_delay (delay_duration at e) place = typed_seconds e place
+typed_delay (delay_duration at named e) place = typed_seconds e place

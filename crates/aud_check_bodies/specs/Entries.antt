@@ -19,9 +19,9 @@ pub record Entries : Type 0 where
 abbrev pub no_entries : Region → Tables → Entries
 no_entries own t = record { own = own; names = []; tables = t }
 
--- the formals of an entry are seen by no more than themselves (RM 8.1)
+-- the formals of an entry are seen by no more than themselves (RM 8.1), and its scope begins behind them (RM 8.2(2))
 abbrev pub entry_formals : EntryDeclaration → Region → List Region → Formals
-entry_formals e own outer = checked_formals (Some e.name) e.formals (body_frame (place_in own outer)) (own ∷ outer)
+entry_formals e own outer = checked_formals e.formals (body_frame (place_in own outer)) (own ∷ outer)
 
 -- an entry of a type of tasks
 abbrev pub entry_added : ℕ → List ℕ → List NamedParameter → Entries → Entries

@@ -1,5 +1,5 @@
 -- Formal parameters of procedures, entries and accepts (RM 6.1, 9.5.2).
-use Rattle.std.specs.Prelude.{Bool, true, false, List, [], ◌∷◌, ◌++◌, map, Option, Some, None}
+use Rattle.std.specs.Prelude.{Bool, true, false, List, [], ◌∷◌, ◌++◌, map, Option}
 use Rattle.aud_syntax.specs.declared.tree.Ident.{Ident}
 use Rattle.aud_syntax.specs.declared.tree.Mode.{Mode}
 use Rattle.aud_syntax.specs.declared.tree.Mode.TheVariants.{Unstated, In, Out, InOut}
@@ -10,8 +10,8 @@ use Rattle.aud_names.specs.declared.names.Meaning.{Meaning}
 use Rattle.aud_names.specs.declared.names.NamedParameter.{NamedParameter}
 use Rattle.aud_names.specs.declared.names.Parameter.{Parameter}
 use Rattle.aud_names.specs.declared.array.Kind.{Kind}
-use Rattle.aud_names.specs.Names.{Region, place_in, hiding, own_hidden, with_own, visible}
-use Rattle.aud_check_bodies.specs.Declarations.{subtype_faults, subtype_meant, scalar, declared_names, twice_faults}
+use Rattle.aud_names.specs.Names.{Region, Place, place_in, body_frame}
+use Rattle.aud_check_bodies.specs.Declarations.{subtype_faults, subtype_meant, marked, scalar, declared_names, twice_faults}
 
 -- a formal of mode in is a constant (RM 3.3, 6.1)
 abbrev pub is_in : Mode → Bool
@@ -25,15 +25,6 @@ pub record Formals : Type 0 where
   pub faults : List Fault
   pub region : Region
   pub profile : List NamedParameter
-
--- the name of the procedure or entry that they are formals of, where its declaration lasts still: that of an accept has ended
-abbrev pub own_name : Option Ident → Region → Option Ident
-own_name None r = None
-own_name (Some own) r = own_hidden own r
-
--- what the mark of formals stands for, which are declared in a region within these
-abbrev pub mark_meant : Option Ident → List Ident → Ident → Region → List Region → Option Meaning
-mark_meant own names mark r outer = visible mark.name (hiding (with_own (own_name own r) names) (place_in r outer))
 
 -- one for each of the names
 abbrev pub parameters_of : List Ident → Parameter → List NamedParameter
@@ -49,13 +40,17 @@ formals_meant names mode mark m r = record {
   profile = parameters_of names (record { mode = mode; subtype = subtype_meant m });
 }
 
-abbrev pub checked_formal : Option Ident → Formal → Region → List Region → Formals
-checked_formal own (formal first others mode mark) r outer = formals_meant (first ∷ others) mode mark (mark_meant own (first ∷ others) mark r outer) r
+abbrev pub checked_formal : Formal → Region → List Region → Formals
+checked_formal (formal first others mode mark) r outer = formals_meant (first ∷ others) mode mark (marked mark (first ∷ others) (place_in r outer)) r
 
 abbrev pub joined_formals : Formals → Formals → Formals
 joined_formals f g = record { faults = f.faults ++ g.faults; region = g.region; profile = f.profile ++ g.profile }
 
 -- formals are declared one after the other in a region, which lies within these
-abbrev pub checked_formals : Option Ident → List Formal → Region → List Region → Formals
-checked_formals own [] r outer = record { faults = []; region = r; profile = [] }
-checked_formals own (f ∷ fs) r outer = joined_formals (checked_formal own f r outer) (checked_formals own fs (checked_formal own f r outer).region outer)
+abbrev pub checked_formals : List Formal → Region → List Region → Formals
+checked_formals [] r outer = record { faults = []; region = r; profile = [] }
+checked_formals (f ∷ fs) r outer = joined_formals (checked_formal f r outer) (checked_formals fs (checked_formal f r outer).region outer)
+
+-- those of a body or a declaration at a place, in a region of their own (RM 8.1)
+abbrev pub body_formals : List Formal → Place → Formals
+body_formals fs place = checked_formals fs (body_frame place) place.regions

@@ -17,12 +17,12 @@ use Rattle.aud_names.specs.declared.array.Kind.TheVariants.{Protected}
 use Rattle.aud_names.specs.declared.parts.ObjectPart.{ObjectPart}
 use Rattle.aud_names.specs.declared.parts.PartKind.{PartKind}
 use Rattle.aud_names.specs.declared.parts.PartKind.TheVariants as part
-use Rattle.aud_names.specs.Names.{Region, Place, place_in, innermost, in_region, body_frame, hiding, is_declared}
+use Rattle.aud_names.specs.Names.{Region, Place, place_in, innermost, in_region, body_frame, hiding, is_declared, visible}
 use Rattle.aud_names.specs.Objects.{own_instance, body_instance, with_part, object_frame, around_object, awaited_object, object_come}
 use Rattle.aud_names.specs.Rules.{declared_once, right_name_at_end, no_matching_body}
 use Rattle.aud_check_bodies.specs.Tables.{Tables, Outcome, fine, after, and_then, next_unit, unit_kept, next_entry, protected_entry_kept, next_object, object_kept}
 use Rattle.aud_check_bodies.specs.Declarations.{Declared, nothing_declared, subtype_faults, subtype_meant, marked, initial_faults, initial_value, with_symbol}
-use Rattle.aud_check_bodies.specs.Formals.{Formals, checked_formals, mark_meant}
+use Rattle.aud_check_bodies.specs.Formals.{Formals, checked_formals}
 
 -- what an object has declared so far: its own region (RM 8.1); a region around that, in which its name means the object, and that is found
 -- behind its name; the initial values of its components; the numbers of its entries; and the tables
@@ -49,27 +49,27 @@ with_object_parts ps r = record r { parts = r.parts ++ ps }
 
 -- Operations (RM 9.4(5)).
 
--- their formals are seen by no more than themselves
-abbrev pub operation_formals : Ident → List Formal → Region → List Region → Formals
-operation_formals i fs own rest = checked_formals (Some i) fs (body_frame (place_in own rest)) (own ∷ rest)
+-- their formals are seen by no more than themselves, and the scope of an operation begins behind them and its result (RM 8.2(2))
+abbrev pub operation_formals : List Formal → Region → List Region → Formals
+operation_formals fs own rest = checked_formals fs (body_frame (place_in own rest)) (own ∷ rest)
 
--- the subtype of the value of a function of this name, which is named behind its formals
-abbrev pub result_meant : Ident → Ident → Region → List Region → Option Meaning
-result_meant i mark formals outer = mark_meant (Some i) [] mark formals outer
+-- the subtype of a function's value, which is named behind its formals
+abbrev pub result_meant : Ident → Region → List Region → Option Meaning
+result_meant mark formals outer = visible mark.name (place_in formals outer)
 
 -- the formals of a function in this region, and the subtype of its value
-abbrev pub signature_faults : Ident → List Formal → Ident → Region → List Region → List Fault
-signature_faults i fs mark r outer =
-    let f = checked_formals (Some i) fs r outer in
-    f.faults ++ subtype_faults (result_meant i mark f.region outer) mark.at
+abbrev pub signature_faults : List Formal → Ident → Region → List Region → List Fault
+signature_faults fs mark r outer =
+    let f = checked_formals fs r outer in
+    f.faults ++ subtype_faults (result_meant mark f.region outer) mark.at
 
-abbrev pub signature : Ident → List Formal → Ident → Region → List Region → List NamedParameter × Option Subtype
-signature i fs mark r outer =
-    let f = checked_formals (Some i) fs r outer in
-    (f.profile, subtype_meant (result_meant i mark f.region outer))
+abbrev pub signature : List Formal → Ident → Region → List Region → List NamedParameter × Option Subtype
+signature fs mark r outer =
+    let f = checked_formals fs r outer in
+    (f.profile, subtype_meant (result_meant mark f.region outer))
 
-abbrev pub function_signature : Ident → List Formal → Ident → Region → List Region → List NamedParameter × Option Subtype
-function_signature i fs mark own rest = signature i fs mark (body_frame (place_in own rest)) (own ∷ rest)
+abbrev pub function_signature : List Formal → Ident → Region → List Region → List NamedParameter × Option Subtype
+function_signature fs mark own rest = signature fs mark (body_frame (place_in own rest)) (own ∷ rest)
 
 abbrev pub with_operation : ℕ → Bool → Ident → PartKind → ObjectDeclared → ObjectDeclared
 with_operation object is_private i kind x = record x {
@@ -92,17 +92,17 @@ with_function object is_private i s x =
     record (with_operation object is_private i (part.Operation (next_unit x.tables) (Function s.1)) x) { tables = unit_kept s.0 x.tables }
 
 abbrev pub one_operation : ℕ → Bool → Operation → List Region → ObjectDeclared → ObjectDeclared
-one_operation object is_private (entry_operation e) outer x = with_entry object is_private e.name (operation_formals e.name e.formals x.own (further_out x outer)).profile x
-one_operation object is_private (procedure_operation i fs) outer x = with_procedure object is_private i (operation_formals i fs x.own (further_out x outer)).profile x
+one_operation object is_private (entry_operation e) outer x = with_entry object is_private e.name (operation_formals e.formals x.own (further_out x outer)).profile x
+one_operation object is_private (procedure_operation i fs) outer x = with_procedure object is_private i (operation_formals fs x.own (further_out x outer)).profile x
 one_operation object is_private (function_operation i fs mark) outer x =
-    with_function object is_private i (function_signature i fs mark x.own (further_out x outer)) x
+    with_function object is_private i (function_signature fs mark x.own (further_out x outer)) x
 
 -- each name is declared once
 abbrev pub head_faults : Ident → List Formal → Region → List Region → List Fault
-head_faults i fs own rest = declared_once i.name i.at own.symbols ++ (operation_formals i fs own rest).faults
+head_faults i fs own rest = declared_once i.name i.at own.symbols ++ (operation_formals fs own rest).faults
 
 abbrev pub function_faults : Ident → List Formal → Ident → Region → List Region → List Fault
-function_faults i fs mark own rest = declared_once i.name i.at own.symbols ++ signature_faults i fs mark (body_frame (place_in own rest)) (own ∷ rest)
+function_faults i fs mark own rest = declared_once i.name i.at own.symbols ++ signature_faults fs mark (body_frame (place_in own rest)) (own ∷ rest)
 
 abbrev pub operation_faults : Operation → List Region → ObjectDeclared → List Fault
 operation_faults (entry_operation e) outer x = head_faults e.name e.formals x.own (further_out x outer)

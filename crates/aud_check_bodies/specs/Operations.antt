@@ -14,7 +14,7 @@ use Rattle.aud_names.specs.declared.parts.ObjectPart.{ObjectPart}
 use Rattle.aud_names.specs.declared.parts.Part.{Part}
 use Rattle.aud_names.specs.declared.parts.PartKind.{PartKind}
 use Rattle.aud_names.specs.declared.parts.PartKind.TheVariants as part
-use Rattle.aud_names.specs.Names.{Region, Place, place_in, innermost, body_frame}
+use Rattle.aud_names.specs.Names.{Region, Place, place_in, innermost}
 use Rattle.aud_names.specs.Objects.{part_in, object_place, barrier_place, first_with, without_first, is_unit}
 use Rattle.aud_names.specs.Rules.{no_matching_body, agree, conform, formals_conform}
 use Rattle.aud_typing.specs.Conditions.{condition_faults, condition}
@@ -22,7 +22,7 @@ use Rattle.aud_check_bodies.specs.declared.within.Leaves.{Leaves}
 use Rattle.aud_check_bodies.specs.declared.within.Leaves.TheVariants as leaves
 use Rattle.aud_check_bodies.specs.Tables.{Tables, Outcome, fine, after, and_then, next_unit, unit_kept, with_unit, profile_of, entry_profile_of, with_barrier}
 use Rattle.aud_check_bodies.specs.Declarations.{subtype_faults, subtype_meant}
-use Rattle.aud_check_bodies.specs.Formals.{Formals, checked_formals}
+use Rattle.aud_check_bodies.specs.Formals.{body_formals}
 use Rattle.aud_check_bodies.specs.Objects.{result_meant}
 
 -- of what a body is: of an entry with this barrier, of a procedure, or of a function whose value has the subtype of this mark
@@ -55,23 +55,14 @@ abbrev pub operation_place : Head → BodyPlaces → Place
 operation_place (of_function mark) o = o.in_function
 operation_place _ o = o.inside
 
--- the name of a subprogram is hidden in its formals (RM 8.3(16)); that of an entry is visible, as its barrier may name it
-abbrev pub hidden_own : Head → Ident → Option Ident
-hidden_own (of_entry barrier) i = None
-hidden_own _ i = Some i
-
--- formals are declared in the region of their body (RM 8.1)
-abbrev pub head_formals : Head → Ident → List Formal → Place → Formals
-head_formals head i fs here = checked_formals (hidden_own head i) fs (body_frame here) here.regions
-
 -- the subtype of a function's value, which is named behind these formals, in a region within these
-abbrev pub head_result : Head → Ident → Region → List Region → Option Subtype
-head_result (of_function mark) i formals outer = subtype_meant (result_meant i mark formals outer)
-head_result _ i formals outer = None
+abbrev pub head_result : Head → Region → List Region → Option Subtype
+head_result (of_function mark) formals outer = subtype_meant (result_meant mark formals outer)
+head_result _ formals outer = None
 
-abbrev pub result_faults : Head → Ident → Region → List Region → List Fault
-result_faults (of_function mark) i formals outer = subtype_faults (result_meant i mark formals outer) mark.at
-result_faults _ i formals outer = []
+abbrev pub result_faults : Head → Region → List Region → List Fault
+result_faults (of_function mark) formals outer = subtype_faults (result_meant mark formals outer) mark.at
+result_faults _ formals outer = []
 
 -- what a return leaves
 abbrev pub head_leaves : Head → Option Subtype → Leaves
@@ -84,15 +75,15 @@ pub record Shape : Type 0 where
   pub profile : List NamedParameter
   pub returned : Option Subtype
 
-abbrev pub shape_of : Head → Ident → List Formal → Place → Shape
-shape_of head i fs here =
-    let f = head_formals head i fs here in
-    record { region = f.region; profile = f.profile; returned = head_result head i f.region here.regions }
+abbrev pub shape_of : Head → List Formal → Place → Shape
+shape_of head fs here =
+    let f = body_formals fs here in
+    record { region = f.region; profile = f.profile; returned = head_result head f.region here.regions }
 
-abbrev pub shape_faults : Head → Ident → List Formal → Place → List Fault
-shape_faults head i fs here =
-    let f = head_formals head i fs here in
-    f.faults ++ result_faults head i f.region here.regions
+abbrev pub shape_faults : Head → List Formal → Place → List Fault
+shape_faults head fs here =
+    let f = body_formals fs here in
+    f.faults ++ result_faults head f.region here.regions
 
 -- Which operation or entry it is (RM 3.11.1).
 
@@ -164,13 +155,13 @@ operation_tables head found formals here t = barrier_kept found (barrier_of head
 
 abbrev pub operation_faults : Head → Option PartKind → Ident → List Formal → Place → Tables → List Fault
 operation_faults head found i fs here t =
-    let s = shape_of head i fs here in
-    shape_faults head i fs here ++ (operation_matched found i.at s.profile s.returned t ++ barrier_faults head s.region here)
+    let s = shape_of head fs here in
+    shape_faults head fs here ++ (operation_matched found i.at s.profile s.returned t ++ barrier_faults head s.region here)
 
 abbrev pub operation_of : Head → Ident → List Formal → (Place → Tables → Outcome tree.UnitBody) → BodyPlaces → List AwaitedPart → Tables → Outcome (List AwaitedPart)
 operation_of head i fs checked o awaited t =
     let here = operation_place head o in
-    let region = (shape_of head i fs here).region in
+    let region = (shape_of head fs here).region in
     let found = part_awaited head i o awaited in
     after (operation_faults head found i fs here t)
     (and_then (checked (place_in region here.regions) (operation_tables head found region here t)) (λ u t1.

@@ -4,7 +4,8 @@ use Rattle.aud_syntax.specs.Plain.{Unit, unit}
 use Rattle.aud_typed.specs.Tree as tree
 use Rattle.aud_fault.specs.declared.fault.Fault.{Fault}
 use Rattle.aud_names.specs.Names.{main_place}
-use Rattle.aud_check_bodies.specs.Tables.{Tables, no_tables, Outcome, unit_kept, with_unit}
+use Rattle.aud_names.specs.Rules.{program_named}
+use Rattle.aud_check_bodies.specs.Tables.{Tables, no_tables, Outcome, after, unit_kept, with_unit}
 use Rattle.aud_check_bodies.specs.Statements.{checked_unit}
 
 -- the main procedure's unit is the first, and it has no formals
@@ -13,7 +14,7 @@ main_tables = unit_kept [] no_tables
 
 -- context clauses have no effect (RM 10.1.2, 8.4)
 abbrev pub main_checked : Unit → Outcome tree.UnitBody
-main_checked (unit context at name ds b) = checked_unit false at name.name ds b (main_place name.name) main_tables
+main_checked (unit context at name ds b) = after (program_named name.name name.at) (checked_unit false at name.name ds b (main_place name.name) main_tables)
 
 abbrev pub unit_name : Unit → List ℕ
 unit_name (unit context at name ds b) = name.name

@@ -11,7 +11,7 @@ use Rattle.aud_names.specs.declared.rules.Base.TheVariants.{Whole}
 use Rattle.aud_names.specs.declared.awaited.AwaitedPart.{AwaitedPart}
 use Rattle.aud_names.specs.declared.names.Entry.{Entry}
 use Rattle.aud_names.specs.declared.names.NamedParameter.{NamedParameter}
-use Rattle.aud_names.specs.Names.{Region, Place, innermost, in_region, place_in, body_frame, in_frame, hiding}
+use Rattle.aud_names.specs.Names.{Region, Place, innermost, in_region, place_in, in_frame, hiding}
 use Rattle.aud_names.specs.Objects.{awaited_parts}
 use Rattle.aud_check_bodies.specs.declared.within.Leaves.{Leaves}
 use Rattle.aud_check_bodies.specs.declared.within.Leaves.TheVariants as leaves
@@ -21,7 +21,7 @@ use Rattle.aud_check_bodies.specs.Tables.{Tables, Outcome, fine, after, and_then
 use Rattle.aud_typing.specs.Expressions.{checked_simple, simple_at, wants}
 use Rattle.aud_typing.specs.Conditions.{condition_faults, condition, maybe_condition_faults, maybe_condition}
 use Rattle.aud_check_bodies.specs.Declarations.{integer_of, given_faults, given_value, Declared, leaving, checked_objects, checked_arrays, checked_exceptions, with_procedure, nothing_declared, joined_declared}
-use Rattle.aud_check_bodies.specs.Formals.{Formals, checked_formals}
+use Rattle.aud_check_bodies.specs.Formals.{Formals, body_formals}
 use Rattle.aud_check_bodies.specs.Objects.{checked_protected, object_awaited, object_behind, object_body_of}
 use Rattle.aud_check_bodies.specs.Operations.{Head, of_entry, of_procedure, of_function, is_function_head, BodyPlaces, body_places, operation_place, head_leaves, shape_of, operation_of}
 use Rattle.aud_check_bodies.specs.Tasks.{checked_task, with_bodies, task_awaited, place_behind, task_body_of, with_activation}
@@ -216,22 +216,19 @@ unit_of is_function at name last place region o =
     and_then o (λ b t. after (right_name_at_end name last) (fine (record { level = (innermost place).level; region = region; is_function = is_function; at = at; body = b }) t))
 
 -- what is around the statements of an operation's body, which stands at a place in its object's
-abbrev pub operation_around : Head → Ident → List Formal → ℕ → Place → Around
-operation_around head i fs number here =
-    record (leaving_body (head_leaves head (shape_of head i fs here).returned)) { requeuing = in_entry head (shape_of head i fs here).profile number }
+abbrev pub operation_around : Head → List Formal → ℕ → Place → Around
+operation_around head fs number here =
+    record (leaving_body (head_leaves head (shape_of head fs here).returned)) { requeuing = in_entry head (shape_of head fs here).profile number }
 
 -- the place behind the name of a procedure, which is visible in its own body (RM 8.3)
 abbrev pub procedure_place : Ident → Place → Tables → Place
 procedure_place i place t = in_region (with_procedure i (next_unit t) (innermost place)) place
 
--- formals are declared in the region of their body (RM 8.1)
-abbrev pub procedure_formals : Ident → List Formal → Place → Formals
-procedure_formals i fs here = checked_formals (Some i) fs (body_frame here) here.regions
-
--- a procedure's declaration, of which these are the formals, and which stands behind its name
+-- a procedure's declaration at a place, of which these are the formals, and the place behind its name, whose scope begins behind them (RM
+-- 8.2(2))
 abbrev pub procedure_of : Ident → Formals → (Place → Tables → Outcome tree.UnitBody) → Place → Place → Tables → Outcome Declared
 procedure_of i fs checked place here t =
-    after (declared_once i.name i.at (innermost place).symbols ++ fs.faults)
+    after (fs.faults ++ declared_once i.name i.at (innermost place).symbols)
     (and_then (checked (place_in fs.region here.regions) (unit_kept fs.profile t)) (λ u t1. fine (nothing_declared here) (with_unit (next_unit t) u t1)))
 
 -- a loop's statements, which see its parameter
@@ -339,7 +336,7 @@ abbrev mutual
   checked_declaration (array first others low high subtype) place t = leaving t (checked_arrays (first ∷ others) first.at low high subtype place)
   checked_declaration (exception first others) place t = checked_exceptions (first ∷ others) place t
   checked_declaration (procedure at i fs ds b) place t =
-      procedure_of i (procedure_formals i fs (procedure_place i place t)) (λ inner t1.
+      procedure_of i (body_formals fs place) (λ inner t1.
       unit_of false at i.name (end_name b) inner (next_region t1) (entered false b (λ further t2. checked_declarations ds further t2) (λ further t2. checked_body b nothing_around further t2) inner t1)) place (procedure_place i place t) t
   checked_declaration (task at is_type i d) place t = checked_task at is_type i d place t
   checked_declaration (task_body at i ds b) place t =
@@ -359,13 +356,13 @@ abbrev mutual
   pub checked_operation : OperationBody → BodyPlaces → List AwaitedPart → Tables → Outcome (List AwaitedPart)
   checked_operation (entry_body at i fs barrier ds b) o awaited t =
       operation_of (of_entry barrier) i fs (λ inner t1.
-      unit_of false at i.name (end_name b) inner (next_region t1) (entered false b (λ further t2. checked_declarations ds further t2) (λ further t2. checked_body b (operation_around (of_entry barrier) i fs o.object o.inside) further t2) inner t1)) o awaited t
+      unit_of false at i.name (end_name b) inner (next_region t1) (entered false b (λ further t2. checked_declarations ds further t2) (λ further t2. checked_body b (operation_around (of_entry barrier) fs o.object o.inside) further t2) inner t1)) o awaited t
   checked_operation (procedure_body at i fs ds b) o awaited t =
       operation_of of_procedure i fs (λ inner t1.
-      unit_of false at i.name (end_name b) inner (next_region t1) (entered false b (λ further t2. checked_declarations ds further t2) (λ further t2. checked_body b (operation_around of_procedure i fs o.object o.inside) further t2) inner t1)) o awaited t
+      unit_of false at i.name (end_name b) inner (next_region t1) (entered false b (λ further t2. checked_declarations ds further t2) (λ further t2. checked_body b (operation_around of_procedure fs o.object o.inside) further t2) inner t1)) o awaited t
   checked_operation (function_body at i fs mark ds b) o awaited t =
       operation_of (of_function mark) i fs (λ inner t1.
-      unit_of true at i.name (end_name b) inner (next_region t1) (entered false b (λ further t2. checked_declarations ds further t2) (λ further t2. checked_body b (operation_around (of_function mark) i fs o.object o.in_function) further t2) inner t1)) o awaited t
+      unit_of true at i.name (end_name b) inner (next_region t1) (entered false b (λ further t2. checked_declarations ds further t2) (λ further t2. checked_body b (operation_around (of_function mark) fs o.object o.in_function) further t2) inner t1)) o awaited t
 
 -- The same of a loop behind the check of its label.
 
@@ -392,7 +389,7 @@ checked_unit of_task at name ds b place t = unit_of false at name (end_name b) p
 -- and of the body of an operation or entry, at a place in its object's
 abbrev pub checked_operation_unit : Head → Pos → Ident → List Formal → Declarations → Body → ℕ → Place → Place → Tables → Outcome tree.UnitBody
 checked_operation_unit head at i fs ds b number here place t =
-    unit_of (is_function_head head) at i.name (end_name b) place (next_region t) (entered_body false ds b (operation_around head i fs number here) place t)
+    unit_of (is_function_head head) at i.name (end_name b) place (next_region t) (entered_body false ds b (operation_around head fs number here) place t)
 
 abbrev pub checked_operation_of : Head → Pos → Ident → List Formal → Declarations → Body → BodyPlaces → List AwaitedPart → Tables → Outcome (List AwaitedPart)
 checked_operation_of head at i fs ds b o awaited t = operation_of head i fs (λ inner t1. checked_operation_unit head at i fs ds b o.object (operation_place head o) inner t1) o awaited t

@@ -104,7 +104,7 @@ pub fn accept_head(
 {
     let regions = scope.regions()?;
     let mut region = scope.accept_frame()?;
-    let profile = formals(None, source, &regions, &mut region, faults)?;
+    let profile = formals(source, &regions, &mut region, faults)?;
     let meaning = scope.visible(&name.name);
     check_accepted(meaning, name.at, &profile, within, scope, tables, faults);
     let entry = entry_meant(meaning);

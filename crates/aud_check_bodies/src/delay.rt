@@ -1,20 +1,23 @@
 // Delays.
 
-ghost use Rattle.std.specs.Prelude.{◌≡◌};
+ghost use Rattle.std.specs.Prelude.{◌≡◌, codes, OnOk};
 ghost use Rattle.aud_syntax.specs.Ties.View.{plain_expression, plain_delay};
 ghost use Rattle.aud_typed.specs.Ties.View.{plain_delay as plain_typed_delay, plain_statement as plain_typed_statement, milliseconds_in};
 ghost use Rattle.aud_typed.specs.Tree.{milliseconds, delay as delay_at_place};
 ghost use Rattle.aud_fault.specs.Least.{noted};
-ghost use Rattle.aud_check_bodies.specs.Delays.{real_faults, seconds_of, thousandths_of, milliseconds_of, seconds_faults, typed_seconds, delay_at, delay_faults, typed_delay};
+ghost use Rattle.aud_names.specs.Names.{visible};
+ghost use Rattle.aud_check_bodies.specs.Delays.{real_faults, seconds_of, thousandths_of, milliseconds_of, seconds_faults, typed_seconds, duration_faults, delay_at, delay_faults, typed_delay};
 ghost use Rattle.aud_typing.specs.Ties.Typing.{in_box, Leaves};
 
 use crate::declaration::integer_of;
 use aud_fault::fault::Least;
-use aud_names::behind::{Left, boxed};
+use aud_names::behind::{Left, Made, boxed};
 use aud_names::names::Scope;
+use aud_names::resolution::note_no_value;
 use aud_names::rules::{Base, number_too_large, too_many_decimals};
 use aud_syntax::tree::{Delay, Expression, Real};
 use aud_text::int32::Int32;
+use aud_text::name::Name;
 use aud_text::place::Pos;
 use aud_typed::program::{DelayExpression, Duration, Statement};
 use aud_typing::expression::{expression, expression_at};
@@ -60,6 +63,20 @@ fn duration(real: Real) -> Duration
     }
 }
 
+// Notes where a declaration hides the type Duration (RM 8.3(15)).
+fn check_duration(at: Pos, scope: &Scope<'_>, faults: &mut Least) -> Made<()>
+    ensures { OnOk result (faults.new ≡ noted faults.old
+        (duration_faults (visible (codes "DURATION") scope.now) at)) }
+{
+    let name = Name::from_source(scope.alloc(), b"DURATION")?;
+    let meaning = scope.visible(&name);
+    drop(name);
+    if let Some(meaning) = meaning {
+        note_no_value(meaning, at, faults);
+    }
+    Ok(())
+}
+
 // Duration of an expression, which is a whole number of seconds.
 #[tactic(auto, using(aud_typing::proofs::Notes::noted_append))]
 fn seconds(e: &Expression, scope: &Scope<'_>, faults: &mut Least) -> Left<DelayExpression>
@@ -74,6 +91,7 @@ fn seconds(e: &Expression, scope: &Scope<'_>, faults: &mut Least) -> Left<DelayE
 }
 
 /// Checks how long is waited (RM 9.6): notes its faults, and answers what is left of it.
+#[tactic(auto, using(aud_typing::proofs::Notes::noted_append))]
 #[inline(never)]
 pub fn delay(delay: &Delay, scope: &Scope<'_>, faults: &mut Least) -> Left<DelayExpression>
     ensures { Leaves (in_box plain_typed_delay) result faults.old faults.new
@@ -85,7 +103,10 @@ pub fn delay(delay: &Delay, scope: &Scope<'_>, faults: &mut Least) -> Left<Delay
             check_real(*real, faults);
             boxed(scope.alloc(), DelayExpression::Fixed(duration(*real)))
         }
-        Delay::Duration(_, e) => seconds(e, scope, faults),
+        Delay::Duration(_, named, e) => {
+            check_duration(*named, scope, faults)?;
+            seconds(e, scope, faults)
+        }
     }
 }
 
@@ -94,7 +115,7 @@ fn delay_at(delay: &Delay) -> Pos
 {
     match delay {
         Delay::Seconds(at, _) => *at,
-        Delay::Duration(at, _) => *at,
+        Delay::Duration(at, _, _) => *at,
     }
 }
 

@@ -44,8 +44,7 @@ fn entry_formals(
         (plain_regions outer.now)).profile }
 {
     let (regions, mut region) = frame_within(own, outer)?;
-    let own = Some(&entry.name);
-    formals(own, &entry.formals, &regions, &mut region, faults)
+    formals(&entry.formals, &regions, &mut region, faults)
 }
 
 // Adds an entry of a type of tasks, which the task has not yet.

@@ -1,23 +1,19 @@
 // Formal parameters of procedures, entries and accepts.
 
 ghost use Rattle.std.specs.Prelude.{◌≡◌, [], ◌++◌, ◌∷◌, IfOk, OnOk, map};
-ghost use Rattle.std.specs.Option.{option_copied};
 ghost use Rattle.aud_syntax.specs.Ties.View.{plain_formal};
 ghost use Rattle.aud_fault.specs.Least.{noted};
-ghost use Rattle.aud_check_bodies.specs.Declarations.{subtype_faults, subtype_meant};
-ghost use Rattle.aud_check_bodies.specs.Formals.{is_in, own_name, mark_meant, parameters_of, checked_formal, checked_formals};
+ghost use Rattle.aud_check_bodies.specs.Declarations.{subtype_faults, subtype_meant, marked};
+ghost use Rattle.aud_check_bodies.specs.Formals.{is_in, parameters_of, checked_formal, checked_formals, body_formals};
 ghost use Rattle.aud_check_bodies.specs.Objects.{result_meant};
 ghost use Rattle.aud_check_bodies.specs.Ties.DeclarativePart.{DeclaresFormals};
-ghost use Rattle.aud_check_bodies.specs.Ties.Objects.{same_subtype};
-ghost use Rattle.aud_typing.specs.Ties.Typing.{Leaves};
-ghost use Rattle.aud_names.specs.Names.{hiding, with_own};
 ghost use Rattle.aud_names.specs.Ties.Regions.{plain_region, plain_regions, plain_place, names_in};
 
 use crate::declaration::{declare, subtype_mark};
 use aud_fault::fault::Least;
 use aud_names::array::{Kind, Scalar};
 use aud_names::behind::{Made, add_last};
-use aud_names::names::{NamedParameter, Parameter, Region, Scope};
+use aud_names::names::{NamedParameter, Parameter, Region, Scope, frame_within};
 use aud_syntax::tree::{Formal, Ident, Identifiers, Mode};
 use aud_typed::program::Subtype;
 use std::alloc::Global;
@@ -32,39 +28,21 @@ pub fn is_in(mode: Mode) -> bool
     }
 }
 
-// The place within the declaration of these formals, and that of the procedure or entry of this name, if it lasts still.
-fn within_formal<'x>(
-    own: Option<&'x Ident>,
-    innermost: &'x Region,
-    outer: &'x [&'x Region],
-    names: &'x Identifiers,
-) -> Made<Scope<'x>>
-    ensures { IfOk result (λ scope. scope
-        ≡ hiding (with_own (own_name (option_copied own.entry) (plain_region innermost.now))
-        (names_in names.now)) (plain_place innermost.now outer.now)) }
-{
-    match own {
-        None => Scope::within(innermost, outer, names),
-        Some(own) => Scope::within_formal(own, innermost, outer, names),
-    }
-}
-
 // The subtype that the mark of formals names.
 fn marked<'x>(
-    own: Option<&'x Ident>,
     formal: &'x Formal,
     region: &'x Region,
     outer: &'x [&'x Region],
     faults: &mut Least,
 ) -> Made<Option<Subtype>>
     ensures subtype { IfOk result (λ subtype. subtype ≡ subtype_meant
-        (mark_meant (option_copied own.entry) (names_in formal.now.names) formal.now.subtype
-        (plain_region region.now) (plain_regions outer.now))) }
+        (marked formal.now.subtype (names_in formal.now.names)
+        (plain_place region.now outer.now))) }
     ensures noted { OnOk result (faults.new ≡ noted faults.old (subtype_faults
-        (mark_meant (option_copied own.entry) (names_in formal.now.names) formal.now.subtype
-        (plain_region region.now) (plain_regions outer.now)) formal.now.subtype.at)) }
+        (marked formal.now.subtype (names_in formal.now.names)
+        (plain_place region.now outer.now)) formal.now.subtype.at)) }
 {
-    let scope = within_formal(own, region, outer, &formal.names)?;
+    let scope = Scope::within(region, outer, &formal.names)?;
     let subtype = subtype_mark(&formal.subtype, &scope, faults);
     drop(scope);
     Ok(subtype)
@@ -104,7 +82,6 @@ fn add(
 // Declares formals of one mode and subtype.
 #[tactic(auto, using(aud_typing::proofs::Notes::noted_append))]
 fn formal(
-    own: Option<&Ident>,
     formal: &Formal,
     outer: &[&Region],
     region: &mut Region,
@@ -113,10 +90,10 @@ fn formal(
 ) -> Made<()>
     ensures { OnOk result (DeclaresFormals faults.old faults.new region.new
         profile.old.items profile.new.items
-        (checked_formal (option_copied own.entry) (plain_formal formal.now)
+        (checked_formal (plain_formal formal.now)
         (plain_region region.old) (plain_regions outer.now))) }
 {
-    let subtype = marked(own, formal, &*region, &*outer, faults)?;
+    let subtype = marked(formal, &*region, &*outer, faults)?;
     let mode = formal.mode;
     let kind = Kind::Scalar(Scalar {
         subtype,
@@ -127,31 +104,27 @@ fn formal(
     add(&formal.names, parameter, region.alloc, profile)
 }
 
-/// The subtype of the value of a function of this name, whose formals are declared in a region that lies within these:
-/// notes its faults.
-pub fn result_mark<'x>(
-    own: &'x Ident,
+/// The subtype of the value of a function whose formals are declared in a region that lies within these: notes its faults.
+pub fn result_mark(
     mark: &Ident,
-    region: &'x Region,
-    outer: &'x [&'x Region],
+    region: &Region,
+    outer: &[&Region],
     faults: &mut Least,
-) -> Made<Option<Subtype>>
-    ensures { Leaves same_subtype result faults.old faults.new
-        (subtype_faults (result_meant own.now mark.now (plain_region region.now)
-        (plain_regions outer.now)) mark.now.at)
-        (subtype_meant (result_meant own.now mark.now (plain_region region.now)
-        (plain_regions outer.now))) }
+) -> Option<Subtype>
+    ensures subtype { result ≡ subtype_meant
+        (result_meant mark.now (plain_region region.now) (plain_regions outer.now)) }
+    ensures noted { faults.new ≡ noted faults.old (subtype_faults
+        (result_meant mark.now (plain_region region.now) (plain_regions outer.now)) mark.now.at) }
 {
-    let scope = Scope::behind_formals(own, region, outer)?;
+    let scope = Scope::new(region, outer);
     let subtype = subtype_mark(mark, &scope, faults);
     drop(scope);
-    Ok(subtype)
+    subtype
 }
 
 /// Declares formals in a region, which lies within these (RM 6.1): notes their faults, and answers what calls and accepts
-/// see of them. The declaration of the procedure or entry that they are formals of lasts still where it is named.
+/// see of them.
 pub fn formals(
-    own: Option<&Ident>,
     formals: &[Formal],
     outer: &[&Region],
     region: &mut Region,
@@ -159,12 +132,27 @@ pub fn formals(
 ) -> Made<Vec<NamedParameter>>
     ensures { IfOk result (λ profile. DeclaresFormals faults.old faults.new region.new
         [] profile.items
-        (checked_formals (option_copied own.entry) (map plain_formal formals.now)
+        (checked_formals (map plain_formal formals.now)
         (plain_region region.old) (plain_regions outer.now))) }
 {
     let mut profile = Vec::with_capacity(region.alloc, formals.len())?;
     for next in formals {
-        formal(own, next, outer, region, &mut profile, faults)?;
+        formal(next, outer, region, &mut profile, faults)?;
     }
     Ok(profile)
+}
+
+/// The same of a declaration in this region, which lies within those: in a region of their own, which is answered too (RM 8.1).
+pub fn body_formals(
+    list: &[Formal],
+    innermost: &Region,
+    outer: &[&Region],
+    faults: &mut Least,
+) -> Made<(Region, Vec<NamedParameter>)>
+    ensures { IfOk result (λ made. DeclaresFormals faults.old faults.new made.0 [] made.1.items
+        (body_formals (map plain_formal list.now) (plain_place innermost.now outer.now))) }
+{
+    let (regions, mut region) = frame_within(innermost, outer)?;
+    let profile = formals(list, &regions, &mut region, faults)?;
+    Ok((region, profile))
 }

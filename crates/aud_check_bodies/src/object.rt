@@ -100,7 +100,6 @@ fn add_operation(
 // The formals of an operation, in a region of their own within that of its object: notes their faults, and answers what calls
 // see of them.
 fn operation_profile(
-    ident: &Ident,
     list: &[Formal],
     own: &Region,
     around: &Region,
@@ -108,14 +107,14 @@ fn operation_profile(
     faults: &mut Least,
 ) -> Made<Vec<NamedParameter>>
     ensures { Leaves plain_formals result faults.old faults.new
-        (operation_formals ident.now (map plain_formal list.now) (plain_region own.now)
+        (operation_formals (map plain_formal list.now) (plain_region own.now)
         (plain_region around.now ∷ plain_regions outer.now)).faults
-        (operation_formals ident.now (map plain_formal list.now) (plain_region own.now)
+        (operation_formals (map plain_formal list.now) (plain_region own.now)
         (plain_region around.now ∷ plain_regions outer.now)).profile }
 {
     let rest = regions_within(around, outer)?;
     let (regions, mut region) = frame_within(own, &rest)?;
-    formals(Some(ident), list, &regions, &mut region, faults)
+    formals(list, &regions, &mut region, faults)
 }
 
 // The same of an operation whose name is declared too.
@@ -131,16 +130,15 @@ fn head(
     ensures { Leaves plain_formals result faults.old faults.new
         (head_faults ident.now (map plain_formal list.now) (plain_region own.now)
         (plain_region around.now ∷ plain_regions outer.now))
-        (operation_formals ident.now (map plain_formal list.now) (plain_region own.now)
+        (operation_formals (map plain_formal list.now) (plain_region own.now)
         (plain_region around.now ∷ plain_regions outer.now)).profile }
 {
     declared_once(ident, &own.symbols, faults);
-    operation_profile(ident, list, own, around, outer, faults)
+    operation_profile(list, own, around, outer, faults)
 }
 
 // The formals of a function, and the subtype of its value.
 fn signature(
-    ident: &Ident,
     list: &[Formal],
     mark: &Ident,
     outer: &[&Region],
@@ -148,15 +146,15 @@ fn signature(
     faults: &mut Least,
 ) -> Made<(Vec<NamedParameter>, Option<Subtype>)>
     ensures { Leaves plain_signature result faults.old faults.new
-        (signature_faults ident.now (map plain_formal list.now) mark.now (plain_region region)
+        (signature_faults (map plain_formal list.now) mark.now (plain_region region)
         (plain_regions outer.now))
-        (plain_signature_of ident.now (map plain_formal list.now) mark.now (plain_region region)
+        (plain_signature_of (map plain_formal list.now) mark.now (plain_region region)
         (plain_regions outer.now)) }
 {
     let mut region = region;
-    let profile = formals(Some(ident), list, outer, &mut region, faults)?;
-    let result = result_mark(ident, mark, &region, outer, faults);
-    both(profile, result)
+    let profile = formals(list, outer, &mut region, faults)?;
+    let result = result_mark(mark, &region, outer, faults);
+    Ok((profile, result))
 }
 
 // The same of a function whose name is declared too.
@@ -171,14 +169,14 @@ fn function_head(
     ensures { Leaves plain_signature result faults.old faults.new
         (function_faults head.entry.0.now (map plain_formal head.entry.1.now) head.entry.2.now
         (plain_region own.now) (plain_region around.now ∷ plain_regions outer.now))
-        (function_signature head.entry.0.now (map plain_formal head.entry.1.now) head.entry.2.now
+        (function_signature (map plain_formal head.entry.1.now) head.entry.2.now
         (plain_region own.now) (plain_region around.now ∷ plain_regions outer.now)) }
 {
     let (ident, list, mark) = head;
     declared_once(ident, &own.symbols, faults);
     let rest = regions_within(around, outer)?;
     let (regions, region) = frame_within(own, &rest)?;
-    signature(ident, list, mark, &regions, region, faults)
+    signature(list, mark, &regions, region, faults)
 }
 
 // Declares an entry (RM 9.5.2).
@@ -192,8 +190,7 @@ fn declare_entry(
     faults: &mut Least,
 ) -> Made<()>
     ensures declared { OnOk result (plain_parts parts.new around.new tables.new
-        ≡ with_entry of.object of.is_private entry.now.name (operation_formals entry.now.name
-        (plain_entry entry.now).formals (plain_region parts.old.own)
+        ≡ with_entry of.object of.is_private entry.now.name (operation_formals (plain_entry entry.now).formals (plain_region parts.old.own)
         (plain_region around.old ∷ plain_regions outer.now)).profile
         (plain_parts parts.old around.old tables.old)) }
     ensures noted { OnOk result (faults.new ≡ noted faults.old (head_faults entry.now.name
@@ -223,8 +220,7 @@ fn declare_procedure(
     faults: &mut Least,
 ) -> Made<()>
     ensures declared { OnOk result (plain_parts parts.new around.new tables.new
-        ≡ with_procedure of.object of.is_private ident.now (operation_formals ident.now
-        (map plain_formal list.now) (plain_region parts.old.own)
+        ≡ with_procedure of.object of.is_private ident.now (operation_formals (map plain_formal list.now) (plain_region parts.old.own)
         (plain_region around.old ∷ plain_regions outer.now)).profile
         (plain_parts parts.old around.old tables.old)) }
     ensures noted { OnOk result (faults.new ≡ noted faults.old (head_faults ident.now
@@ -250,7 +246,7 @@ fn declare_function(
 ) -> Made<()>
     ensures declared { OnOk result (plain_parts parts.new around.new tables.new
         ≡ with_function of.object of.is_private head.entry.0.now
-        (function_signature head.entry.0.now (map plain_formal head.entry.1.now) head.entry.2.now
+        (function_signature (map plain_formal head.entry.1.now) head.entry.2.now
         (plain_region parts.old.own) (plain_region around.old ∷ plain_regions outer.now))
         (plain_parts parts.old around.old tables.old)) }
     ensures noted { OnOk result (faults.new ≡ noted faults.old (function_faults head.entry.0.now

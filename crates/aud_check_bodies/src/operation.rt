@@ -1,7 +1,6 @@
 // The bodies of a protected object's operations and entries: what is checked before their declarations.
 
 ghost use Rattle.std.specs.Prelude.{◌≡◌, ◌++◌, ◌∷◌, List, map, is_some, if◌then◌else◌, IfOk, OnOk};
-ghost use Rattle.std.specs.Option.{option_copied};
 ghost use Rattle.aud_syntax.specs.Ties.View.{plain_formal};
 ghost use Rattle.aud_fault.specs.Least.{noted};
 ghost use Rattle.aud_names.specs.declared.names.Access.TheVariants as access;
@@ -9,8 +8,8 @@ ghost use Rattle.aud_names.specs.declared.names.NamedParameter.{NamedParameter};
 ghost use Rattle.aud_names.specs.Objects.{part_in, object_place, first_with, is_unit};
 ghost use Rattle.aud_names.specs.Ties.Regions.{plain_region, plain_regions, plain_place};
 ghost use Rattle.aud_typing.specs.Ties.Typing.{Leaves as Shown};
-ghost use Rattle.aud_check_bodies.specs.Operations.{is_function_head, hidden_own, head_result, result_faults, head_leaves, shape_of, shape_faults, same_kind, part_unit, if_awaited, still_awaited, part_profile, same_result, operation_matched, operation_unit, operation_kept, barrier_faults, barrier_of, barrier_kept, operation_tables};
-ghost use Rattle.aud_check_bodies.specs.Ties.Objects.{same_subtype, plain_head, plain_shape, plain_barrier, body_place};
+ghost use Rattle.aud_check_bodies.specs.Operations.{is_function_head, head_result, result_faults, head_leaves, shape_of, shape_faults, same_kind, part_unit, if_awaited, still_awaited, part_profile, same_result, operation_matched, operation_unit, operation_kept, barrier_faults, barrier_of, barrier_kept, operation_tables};
+ghost use Rattle.aud_check_bodies.specs.Ties.Objects.{plain_head, plain_shape, plain_barrier, body_place};
 ghost use Rattle.aud_check_bodies.specs.Statements.{in_entry};
 ghost use Rattle.aud_check_bodies.specs.Ties.Tables.{plain_tables};
 ghost use Rattle.aud_check_bodies.specs.Ties.Within.{plain_requeuing};
@@ -123,33 +122,21 @@ pub fn place_of<'a>(
     }
 }
 
-// The name that is hidden in the formals.
-fn hidden_own<'x>(kind: &OperationKind, ident: &'x Ident) -> Option<&'x Ident>
-    ensures { option_copied result ≡ hidden_own (plain_head kind.now) ident.now }
-{
-    match kind {
-        OperationKind::Entry(_) => None,
-        OperationKind::Procedure | OperationKind::Function(_) => Some(ident),
-    }
-}
-
 // The subtype of a function's value.
 fn head_result(
     kind: &OperationKind,
-    ident: &Ident,
     formals: &Region,
     outer: &[&Region],
     faults: &mut Least,
-) -> Made<Option<Subtype>>
-    ensures { Shown same_subtype result faults.old faults.new
-        (result_faults (plain_head kind.now) ident.now (plain_region formals.now)
-        (plain_regions outer.now))
-        (head_result (plain_head kind.now) ident.now (plain_region formals.now)
-        (plain_regions outer.now)) }
+) -> Option<Subtype>
+    ensures subtype { result ≡ head_result (plain_head kind.now) (plain_region formals.now)
+        (plain_regions outer.now) }
+    ensures noted { faults.new ≡ noted faults.old (result_faults (plain_head kind.now)
+        (plain_region formals.now) (plain_regions outer.now)) }
 {
     match kind {
-        OperationKind::Function(mark) => result_mark(ident, mark, formals, outer, faults),
-        OperationKind::Entry(_) | OperationKind::Procedure => Ok(None),
+        OperationKind::Function(mark) => result_mark(mark, formals, outer, faults),
+        OperationKind::Entry(_) | OperationKind::Procedure => None,
     }
 }
 
@@ -187,22 +174,20 @@ pub struct Shape {
 #[inline(never)]
 pub fn body_shape(
     kind: &OperationKind,
-    ident: &Ident,
     list: &[Formal],
     own: &Region,
     outer: &[&Region],
     faults: &mut Least,
 ) -> Made<Shape>
     ensures { Shown plain_shape result faults.old faults.new
-        (shape_faults (plain_head kind.now) ident.now (map plain_formal list.now)
+        (shape_faults (plain_head kind.now) (map plain_formal list.now)
         (plain_place own.now outer.now))
-        (shape_of (plain_head kind.now) ident.now (map plain_formal list.now)
+        (shape_of (plain_head kind.now) (map plain_formal list.now)
         (plain_place own.now outer.now)) }
 {
     let (regions, mut region) = frame_within(own, outer)?;
-    let profile = formals(hidden_own(kind, ident), list, &regions, &mut region, faults)?;
-    let returned = head_result(kind, ident, &region, &regions, faults);
-    let ((region, profile), returned) = both((region, profile), returned)?;
+    let profile = formals(list, &regions, &mut region, faults)?;
+    let returned = head_result(kind, &region, &regions, faults);
     Ok(Shape {
         region,
         profile,

@@ -31,7 +31,7 @@ use crate::declaration::objects;
 use crate::delay::delay;
 use crate::delay::delay_statement;
 use crate::entry_call::entry_call_of;
-use crate::formal::formals;
+use crate::formal::body_formals;
 use crate::handler::all_choices;
 use crate::handler::raise;
 use crate::iteration::For;
@@ -99,7 +99,6 @@ use aud_names::behind::both;
 use aud_names::behind::push;
 use aud_names::names::Region;
 use aud_names::names::Scope;
-use aud_names::names::frame_within;
 use aud_names::names::task_within;
 use aud_names::objects::awaited_parts;
 use aud_names::rules::right_label_at_end;
@@ -660,10 +659,9 @@ fn procedure<'a>(
 {
     let alloc = part.region.alloc;
     let number = tables.next_unit();
+    let (region, profile) = body_formals(&node.formals, &part.region, &*outer, faults)?;
     declare_procedure(&node.name, number, &mut part.region, faults)?;
-    let (regions, mut region) = frame_within(&part.region, &*outer)?;
-    let named = Some(&node.name);
-    let profile = formals(named, &node.formals, &regions, &mut region, faults)?;
+    let regions = regions_within(&part.region, &*outer)?;
     tables.keep_unit(alloc, profile)?;
     let level = region.level;
     let own = tables.next_region();
@@ -789,7 +787,7 @@ fn operation_body<'a>(
     let alloc = own.alloc;
     let kind = &node.kind;
     let ident = &node.name;
-    let shape = body_shape(kind, ident, &node.formals, own, outer, faults)?;
+    let shape = body_shape(kind, &node.formals, own, outer, faults)?;
     let unit = matched(
         kind,
         ident,

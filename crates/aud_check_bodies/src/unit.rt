@@ -17,7 +17,7 @@ use crate::within::{Entering, Leaves, Requeuing};
 use aud_fault::fault::Least;
 use aud_names::behind::{Made, both};
 use aud_names::names::{Region, regions_of_library};
-use aud_names::rules::right_name_at_end;
+use aud_names::rules::{program_named, right_name_at_end};
 use aud_syntax::tree::Unit;
 use aud_text::name::Name;
 use aud_typed::program::Program;
@@ -38,6 +38,7 @@ fn fill<'a>(
         faults.old faults.new (program_faults (plain_unit node.now))
         (typed_program (plain_unit node.now)) }
 {
+    program_named(&node.name, faults);
     tables.keep_unit(alloc, Vec::new(alloc))?;
     let region = Region::new(alloc, 0);
     let number = tables.next_region();

@@ -1,9 +1,11 @@
 -- Frames that are open where steps stand: those of the constructs and loops around each step, on all ways.
-use Rattle.std.specs.Prelude.{◌≡◌, ◌⊎◌, ℕ, zero, suc, List, [], ◌∷◌, drop, Option, Some, None}
+use Rattle.std.specs.Prelude.{◌≡◌, ◌⊎◌, ℕ, zero, suc, List, [], ◌∷◌, drop, Option, Some, None, slice_get}
 use Rattle.aud_meaning.specs.declared.state.Construct.TheVariants as construct
+use Rattle.aud_meaning.specs.declared.state.OpenAccept.{OpenAccept}
 use Rattle.aud_code.specs.Places.{Way, Guard}
-use Rattle.aud_code.specs.Instruction.{Ending, Loop, Block, Accept, Select}
-use Rattle.aud_code.specs.Flat.{Last, Does, Continues, Guards, Ends, Leaves, EndLine, FlatLine, instructs, end}
+use Rattle.aud_code.specs.Instruction as instruction
+use Rattle.aud_code.specs.Instruction.{Instruction, Ending, Loop, Block, Accept, Select}
+use Rattle.aud_code.specs.Flat.{Last, Does, Continues, Guards, Ends, Leaves, EndLine, FlatLine, instructs, end, instructions_from}
 
 -- the first ending, if there is one
 abbrev pub found_from : List FlatLine → Option EndLine
@@ -15,6 +17,20 @@ found_from (end l ∷ ls) = Some l
 abbrev pub Found : Option EndLine → (EndLine → Type 0) → Type 0
 Found None P = ⊥
 Found (Some l) P = P l
+
+-- what holds of the number that is written
+abbrev pub IsWritten : Option ℕ → (ℕ → Type 0) → Type 0
+IsWritten None P = ⊥
+IsWritten (Some n) P = P n
+
+-- what holds of each accept that instructions open
+abbrev pub OpensWith : Instruction → (OpenAccept → Type 0) → Type 0
+OpensWith (instruction.OpensAccept a) P = P a
+OpensWith i P = Unit {0}
+
+abbrev pub EachOpened : List Instruction → (OpenAccept → Type 0) → Type 0
+EachOpened [] P = Unit {0}
+EachOpened (i ∷ is) P = OpensWith i P × EachOpened is P
 
 -- steps that open frames: of a loop, of a block, of what is done in a rendezvous
 abbrev pub OpensLoop : Last → Type 0
@@ -102,10 +118,22 @@ module _ (lines : List FlatLine) where
   WaysAt v w [] = Unit {0}
   WaysAt v w (n ∷ ns) = At n v × EachAt ns w
 
-  -- what an accept does stands within its step; where it does nothing, the step leads on
-  abbrev pub BodiesAt : Option ℕ → ℕ → List ℕ → Type 0
-  BodiesAt w n [] = Unit {0}
-  BodiesAt w n (b ∷ bs) = (At b w ⊎ At b (Some n)) × BodiesAt w n bs
+  -- what an accept does stands within its step, which opens the frame; where it does nothing, the step leads on
+  abbrev pub BodyAt : Option ℕ → Option ℕ → ℕ → ℕ → Type 0
+  BodyAt None w n b = At b w
+  BodyAt (Some region) w n b = At b (Some n)
+
+  -- the one or the other
+  abbrev pub EitherAt : Option ℕ → ℕ → List ℕ → Type 0
+  EitherAt w n [] = Unit {0}
+  EitherAt w n (b ∷ bs) = (At b w ⊎ At b (Some n)) × EitherAt w n bs
+
+  -- those of a selective accept by the accepts that its step's instructions open
+  abbrev pub BodiesAt : Ending → Option ℕ → ℕ → List ℕ → Type 0
+  BodiesAt (Accept entry region) w n [] = ⊥
+  BodiesAt (Accept entry region) w n (b ∷ bs) = BodyAt region w n b × EitherAt w n bs
+  BodiesAt (Select has_else) w n bs = EitherAt w n bs × EachOpened (instructions_from (drop n lines)) (λ a. IsWritten (slice_get bs a.alternative) (BodyAt a.region w n))
+  BodiesAt e w n bs = EitherAt w n bs
 
   abbrev pub GuardsAt : Option ℕ → List Guard → Type 0
   GuardsAt w [] = Unit {0}
@@ -117,7 +145,7 @@ module _ (lines : List FlatLine) where
 
   -- What a step meets that begins at the place n: where it leads, the frames are open that are to be open there.
   abbrev pub LastFits : Last → ℕ → EndLine → Type 0
-  LastFits (Does e) n l = WaysAt l.within (frame_inside e n l.within) l.ways × (BodiesAt l.within n l.bodies × (WayFits l.within l.exit × OutFits l.within l.out))
+  LastFits (Does e) n l = WaysAt l.within (frame_inside e n l.within) l.ways × (BodiesAt e l.within n l.bodies × (WayFits l.within l.exit × OutFits l.within l.out))
   LastFits (Continues f) n l = LoopAround l.within (λ v. WaysAt v l.within l.ways)
   LastFits (Guards gs) n l = GuardsAt l.within gs × Found (found l.out) (λ o. IsEnd o.last × (o.within ≡ l.within))
   LastFits (Ends construct.Unit next) n l = l.within ≡ None

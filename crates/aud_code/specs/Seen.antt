@@ -4,16 +4,12 @@
 use Rattle.std.specs.Prelude.{◌≡◌, ◌⊎◌, ◌<◌, ◌≤◌, ℕ, zero, suc, ◌+◌, List, [], ◌∷◌, length, Bool, true, false, Option, Some, None, slice_get, slice_index_or}
 use Rattle.aud_typed.specs.declared.program.ArrayAt.{ArrayAt}
 use Rattle.aud_meaning.specs.declared.state.Construct.TheVariants as construct
+use Rattle.aud_meaning.specs.declared.state.OpenAccept.{OpenAccept}
 use Rattle.aud_code.specs.Places.{Way, Guard}
-use Rattle.aud_code.specs.Instruction.{Instruction, Load, LoadElement, Count, Find, FindElement, Ending, DeclareTasks, Loop, Block, Proc, Operation, CallObject, RequeueObject}
+use Rattle.aud_code.specs.Instruction.{Instruction, Load, LoadElement, Count, Find, FindElement, Ending, DeclareTasks, Loop, Block, Proc, Operation, CallObject, RequeueObject, Accept, Select}
 use Rattle.aud_code.specs.Flat.{Last, Does, Continues, Guards, Ends, Leaves, EndLine, FlatLine, instructs, end, Flat, start_at}
-use Rattle.aud_code.specs.Frames.{opener, Found}
+use Rattle.aud_code.specs.Frames.{IsWritten, OpensWith, found, opener, Found}
 use Rattle.aud_code.specs.Sound.{Counts}
-
--- what holds of the number that is written
-abbrev pub IsWritten : Option ℕ → (ℕ → Type 0) → Type 0
-IsWritten None P = ⊥
-IsWritten (Some n) P = P n
 
 -- an array without elements has no variable
 abbrev pub ArrayOpen : ArrayAt → ℕ → Type 0
@@ -57,10 +53,29 @@ module _ (seen : List ℕ) where
   WaysSee k n m [] = Unit {0}
   WaysSee k n m (p ∷ ps) = Fewer k n p × EachSame m ps
 
-  -- what an accept does has one more, or it is what follows
-  abbrev pub BodiesSee : ℕ → List ℕ → Type 0
-  BodiesSee n [] = Unit {0}
-  BodiesSee n (p ∷ ps) = (Fewer 0 n p ⊎ Fewer 0 (suc n) p) × BodiesSee n ps
+  -- what an accept does has one more; where it does nothing, it is what follows
+  abbrev pub DoingSees : Option ℕ → ℕ → ℕ → Type 0
+  DoingSees None n p = Fewer 0 n p
+  DoingSees (Some region) n p = Fewer 0 (suc n) p
+
+  -- the one or the other
+  abbrev pub EitherSee : ℕ → List ℕ → Type 0
+  EitherSee n [] = Unit {0}
+  EitherSee n (p ∷ ps) = (Fewer 0 n p ⊎ Fewer 0 (suc n) p) × EitherSee n ps
+
+  abbrev pub BodiesSee : Ending → ℕ → List ℕ → Type 0
+  BodiesSee (Accept entry region) n [] = ⊥
+  BodiesSee (Accept entry region) n (p ∷ ps) = DoingSees region n p × EitherSee n ps
+  BodiesSee e n ps = EitherSee n ps
+
+  -- an accept that is opened in a selective accept's step
+  abbrev pub OpenedSees : Last → List ℕ → ℕ → OpenAccept → Type 0
+  OpenedSees (Does (Select has_else)) ps n a = IsWritten (slice_get ps a.alternative) (DoingSees a.region n)
+  OpenedSees last ps n a = Unit {0}
+
+  abbrev pub StepSees : Option EndLine → ℕ → OpenAccept → Type 0
+  StepSees None n a = Unit {0}
+  StepSees (Some l) n a = OpenedSees l.last l.bodies n a
 
   abbrev pub WaySees : ℕ → Option Way → Type 0
   WaySees n None = Unit {0}
@@ -107,7 +122,7 @@ module _ (code : Flat) (tasks barriers seen : List ℕ) where
 
   abbrev pub LastSees : Last → ℕ → EndLine → Type 0
   LastSees (Does e) n l =
-      EndingSees e n × (WaysSee seen 0 n (inside e n) l.ways × (BodiesSee seen n l.bodies × (WaySees seen n l.exit × OutSees seen l.within n l.out)))
+      EndingSees e n × (WaysSee seen 0 n (inside e n) l.ways × (BodiesSee seen e n l.bodies × (WaySees seen n l.exit × OutSees seen l.within n l.out)))
   LastSees (Continues f) n l = WaysSee seen 1 n n l.ways
   LastSees (Guards gs) n l = GuardsSee seen n gs × Fewer seen 0 n l.out
   LastSees (Ends construct.Unit next) n l = Unit {0}
@@ -132,7 +147,8 @@ module _ (code : Flat) (table : List Counts) (tasks barriers seen : List ℕ) wh
   -- open that are written there.
   abbrev pub LineSees : Option FlatLine → ℕ → ℕ → Type 0
   LineSees None place n = Unit {0}
-  LineSees (Some (instructs i)) place n = NamesOpen i (open_with (slice_get table place) n) × Fewer seen 0 n (suc place)
+  LineSees (Some (instructs i)) place n =
+      NamesOpen i (open_with (slice_get table place) n) × (Fewer seen 0 n (suc place) × OpensWith i (λ a. StepSees seen (found code.lines place) n a))
   LineSees (Some (end l)) place n = WithinSees seen l.within n × LastSees code tasks barriers seen l.last n l
 
   abbrev pub PlaceSees : ℕ → Type 0

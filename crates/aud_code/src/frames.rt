@@ -1,16 +1,19 @@
 // The frames that are open where steps stand.
 
-ghost use Rattle.std.specs.Prelude.{◌≡◌, ◌↔◌, ◌⊎◌, [], ◌∷◌, map, None, Some};
+ghost use Rattle.std.specs.Prelude.{◌≡◌, ◌↔◌, ◌⊎◌, [], ◌∷◌, drop, map, None, Some, slice_get};
 ghost use Rattle.std.specs.Prelude.{IfNone, IfSome, IsTrue};
 ghost use Rattle.aud_code.specs.Frames.{found, frame_inside, opener, AcceptAround, At, Behind, BlockAround};
-ghost use Rattle.aud_code.specs.Frames.{BodiesAt, OpensAccept};
+ghost use Rattle.aud_code.specs.Frames.{BodiesAt, BodyAt, EitherAt, EachOpened, OpensAccept, OpensWith, IsWritten};
 ghost use Rattle.aud_code.specs.Frames.{EachAt, GoTo, GuardsAt, IsEnd, LastFits, LoopAround};
 ghost use Rattle.aud_code.specs.Frames.{Found, OpensBlock, OpensLoop, OutFits, OutOf, OutOfLoops};
 ghost use Rattle.aud_code.specs.Frames.{StepFits, TakesExceptions, WayFits, WaysAt};
 ghost use Rattle.aud_code.specs.View.{behind_offers, beside, bodies_in, bodies_offered};
-ghost use Rattle.aud_code.specs.View.{inside_of, plain_end, plain_ending, plain_guard, plain_last};
+ghost use Rattle.aud_code.specs.Flat.{instructions_from};
+ghost use Rattle.aud_code.specs.View.{inside_of, plain_among, plain_end, plain_ending, plain_guard};
+ghost use Rattle.aud_code.specs.View.{plain_instruction, plain_last};
 ghost use Rattle.aud_code.specs.View.{plain_line, way_beside, way_of};
 
+use crate::instruction::Instruction;
 use crate::line::{Among, EndLine, Ending, Guard, Last, Line, Offer};
 use aud_meaning::state::Construct;
 
@@ -82,7 +85,8 @@ fn fits(lines: &[Line], place: usize, end: &EndLine) -> bool
 fn ending_fits(lines: &[Line], place: usize, within: Option<usize>, ending: Ending) -> bool
     ensures { IsTrue result ↔ (EachAt (map plain_line lines.now) (inside_of ending)
         (frame_inside (plain_ending ending) place within)
-        × WayFits (map plain_line lines.now) within (way_of ending)) }
+        × (BodiesAt (map plain_line lines.now) (plain_ending ending) within place []
+        × WayFits (map plain_line lines.now) within (way_of ending))) }
 {
     match ending {
         Ending::Declare { again: inside, .. } | Ending::If(inside) | Ending::While(inside) => {
@@ -108,16 +112,18 @@ fn ending_fits(lines: &[Line], place: usize, within: Option<usize>, ending: Endi
 // Where a step leads besides that concerns others, or out of loops, and to what its accepts do.
 fn among_fits(lines: &[Line], place: usize, within: Option<usize>, among: &Among) -> bool
     ensures { IsTrue result ↔ (EachAt (map plain_line lines.now) (beside among.now) within
-        × (BodiesAt (map plain_line lines.now) within place (bodies_in among.now)
+        × (BodiesAt (map plain_line lines.now) (plain_among among.now) within place
+        (bodies_in among.now)
         × WayFits (map plain_line lines.now) within (way_beside among.now))) }
 {
     match among {
         Among::Call { otherwise, .. } | Among::CallObject { otherwise, .. } => {
             is_within(lines, *otherwise, within)
         }
-        Among::Accept { body, .. } => body_fits(lines, place, within, *body),
+        Among::Accept { region, body, .. } => body_fits(lines, place, within, *region, *body),
         Among::Select { own, offers, .. } => {
-            body_fits(lines, place, within, *own) && offers_fit(lines, place, within, offers)
+            alternatives_fit(lines, place, within, *own, offers)
+                && accepts_fit(lines, place, within, *own, offers)
         }
         Among::RequeueTask { way, .. } | Among::RequeueObject { way, .. } => {
             leaves_loops(lines, within, way.loops, way.to)
@@ -132,10 +138,24 @@ fn among_fits(lines: &[Line], place: usize, within: Option<usize>, among: &Among
     }
 }
 
+// The same of a selective accept, whose own step begins at the place `own`.
+fn alternatives_fit(
+    lines: &[Line],
+    place: usize,
+    within: Option<usize>,
+    own: usize,
+    offers: &[Offer],
+) -> bool
+    ensures { IsTrue result ↔ (EachAt (map plain_line lines.now) (behind_offers offers.now) within
+        × EitherAt (map plain_line lines.now) within place (own ∷ bodies_offered offers.now)) }
+{
+    is_either(lines, place, within, own) && offers_fit(lines, place, within, offers)
+}
+
 // Where alternatives lead, and to what their accepts do.
 fn offers_fit(lines: &[Line], place: usize, within: Option<usize>, offers: &[Offer]) -> bool
     ensures { IsTrue result ↔ (EachAt (map plain_line lines.now) (behind_offers offers.now) within
-        × BodiesAt (map plain_line lines.now) within place (bodies_offered offers.now)) }
+        × EitherAt (map plain_line lines.now) within place (bodies_offered offers.now)) }
 {
     for offer in offers {
         if !offer_fits(lines, place, within, *offer) {
@@ -150,15 +170,91 @@ fn offer_fits(lines: &[Line], place: usize, within: Option<usize>, offer: Offer)
         × (At (map plain_line lines.now) offer.body within
         ⊎ At (map plain_line lines.now) offer.body (Some place))) }
 {
-    is_within(lines, offer.behind, within) && body_fits(lines, place, within, offer.body)
+    is_within(lines, offer.behind, within) && is_either(lines, place, within, offer.body)
 }
 
-// What an accept does stands within its step; where it does nothing, the step leads on.
-fn body_fits(lines: &[Line], place: usize, within: Option<usize>, body: usize) -> bool
+// Within the step or beside it.
+fn is_either(lines: &[Line], place: usize, within: Option<usize>, body: usize) -> bool
     ensures { IsTrue result ↔ (At (map plain_line lines.now) body within
         ⊎ At (map plain_line lines.now) body (Some place)) }
 {
     is_within(lines, body, within) || is_within(lines, body, Some(place))
+}
+
+// What an accept does stands within its step; where it does nothing, the step leads on.
+fn body_fits(
+    lines: &[Line],
+    place: usize,
+    within: Option<usize>,
+    region: Option<usize>,
+    body: usize,
+) -> bool
+    ensures { IsTrue result ↔ BodyAt (map plain_line lines.now) region within place body }
+{
+    match region {
+        Some(_) => is_within(lines, body, Some(place)),
+        None => is_within(lines, body, within),
+    }
+}
+
+// The accepts that the instructions of a selective accept's step open.
+fn accepts_fit(
+    lines: &[Line],
+    place: usize,
+    within: Option<usize>,
+    own: usize,
+    offers: &[Offer],
+) -> bool
+    ensures { IsTrue result ↔ EachOpened (instructions_from (drop place (map plain_line lines.now)))
+        (λ accept. IsWritten (slice_get (own ∷ bodies_offered offers.now) accept.alternative)
+        (BodyAt (map plain_line lines.now) accept.region within place)) }
+{
+    for here in place..lines.len() {
+        match &lines[here] {
+            Line::Instruction(instruction) => {
+                if !opened_fits(lines, place, within, own, offers, instruction) {
+                    return false;
+                }
+            }
+            Line::End(_) => return true,
+        }
+    }
+    true
+}
+
+// The accept that an instruction opens, if it opens one.
+fn opened_fits(
+    lines: &[Line],
+    place: usize,
+    within: Option<usize>,
+    own: usize,
+    offers: &[Offer],
+    instruction: &Instruction,
+) -> bool
+    ensures { IsTrue result ↔ OpensWith (plain_instruction instruction.now)
+        (λ accept. IsWritten (slice_get (own ∷ bodies_offered offers.now) accept.alternative)
+        (BodyAt (map plain_line lines.now) accept.region within place)) }
+{
+    match instruction {
+        Instruction::OpensAccept(accept) => match body_offered(own, offers, accept.alternative) {
+            Some(body) => body_fits(lines, place, within, accept.region, body),
+            None => false,
+        },
+        _ => true,
+    }
+}
+
+/// Where it begins what is done by the alternative of a number; the step itself has the number 0.
+pub(crate) fn body_offered(own: usize, offers: &[Offer], alternative: usize) -> Option<usize>
+    ensures { result ≡ slice_get (own ∷ bodies_offered offers.now) alternative }
+{
+    if alternative == 0 {
+        return Some(own);
+    }
+    match offers.get(alternative - 1) {
+        Some(offer) => Some(offer.body),
+        None => None,
+    }
 }
 
 // The end of a loop's statements, in the loop's frame.

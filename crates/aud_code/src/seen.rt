@@ -1,20 +1,21 @@
 // The table of frames that stands beside code: each line is checked against what is written before it and at each place that it
 // leads to.
 
-ghost use Rattle.std.specs.Prelude.{◌≡◌, ◌↔◌, ◌⊎◌, ◌+◌, ◌<◌, ◌≤◌, ℕ, suc, map, length, Some, slice_get, slice_index_or, IsTrue};
+ghost use Rattle.std.specs.Prelude.{◌≡◌, ◌↔◌, ◌⊎◌, ◌+◌, ◌<◌, ◌≤◌, ℕ, suc, [], map, length, Some, slice_get, slice_index_or, IsTrue};
 ghost use Rattle.aud_code.specs.Tabled.{counts};
 ghost use Rattle.aud_code.specs.Flat.{instructions_from, start_at};
-ghost use Rattle.aud_code.specs.Seen.{inside, AllOpen, BarrierSees, BarriersSee, BehindSees, BodiesSee, BodySees, EachSame, EndingSees, Fewer};
-ghost use Rattle.aud_code.specs.Seen.{GuardsSee, IsSeen, IsWritten, LastSees, LineSees, NamesOpen};
+ghost use Rattle.aud_code.specs.Frames.{found, IsWritten, OpensWith};
+ghost use Rattle.aud_code.specs.Seen.{inside, AllOpen, BarrierSees, BarriersSee, BehindSees, BodiesSee, BodySees, DoingSees, EachSame, EitherSee, EndingSees, Fewer};
+ghost use Rattle.aud_code.specs.Seen.{GuardsSee, IsSeen, LastSees, LineSees, NamesOpen, OpenedSees, StepSees};
 ghost use Rattle.aud_code.specs.Seen.{OutSees, PlaceSees, WaySees, WithinSees};
 ghost use Rattle.aud_code.specs.Seen.{open_with, with_own};
-ghost use Rattle.aud_code.specs.View.{behind_offers, beside, bodies_in, bodies_offered, frames_in, inside_of, plain_among, plain_barrier, plain_code, plain_end, plain_ending, plain_guard};
+ghost use Rattle.aud_code.specs.View.{behind_offers, beside, bodies_in, bodies_of, bodies_offered, frames_in, inside_of, plain_among, plain_barrier, plain_code, plain_end, plain_ending, plain_guard};
 ghost use Rattle.aud_code.specs.View.{plain_instruction, plain_last, plain_line, way_beside, way_of};
 
-use crate::frames::opener;
+use crate::frames::{body_offered, found, opener};
 use crate::instruction::Instruction;
 use crate::line::{Among, Barrier, Code, EndLine, Ending, Guard, Last, Line, Offer};
-use aud_meaning::state::Construct;
+use aud_meaning::state::{Construct, OpenAccept};
 
 /// Whether each line names variables of frames that are open alone, by the table of frames, and leads to where those
 /// are open that are written there.
@@ -91,9 +92,48 @@ fn line_sees(code: &Code, line: &Line, place: usize, frames: usize) -> bool
         Line::Instruction(instruction) => {
             names_open(instruction, frames, has_begun(code, place))
                 && is_fewer(&code.seen, 0, frames, place + 1)
+                && accept_sees(code, instruction, place, frames)
         }
         Line::End(end) => within_sees(&code.seen, end.within, frames)
             && last_sees(code, end, frames),
+    }
+}
+
+// The accept that an instruction opens, if it opens one.
+fn accept_sees(code: &Code, instruction: &Instruction, place: usize, frames: usize) -> bool
+    ensures { IsTrue result ↔ OpensWith (plain_instruction instruction.now)
+        (λ accept. StepSees code.now.seen.items
+        (found (map plain_line code.now.lines.items) place) frames accept) }
+{
+    match instruction {
+        Instruction::OpensAccept(accept) => step_sees(code, *accept, place, frames),
+        _ => true,
+    }
+}
+
+fn step_sees(code: &Code, accept: OpenAccept, place: usize, frames: usize) -> bool
+    ensures { IsTrue result ↔
+        StepSees code.now.seen.items (found (map plain_line code.now.lines.items) place) frames accept }
+{
+    match found(&code.lines, place) {
+        Some(end) => opened_sees(&code.seen, &end.last, accept, frames),
+        None => true,
+    }
+}
+
+// What is done by an accept that is opened in a selective accept's step.
+fn opened_sees(seen: &[usize], last: &Last, accept: OpenAccept, frames: usize) -> bool
+    ensures { IsTrue result ↔
+        OpenedSees seen.now (plain_last last.now) (bodies_of last.now) frames accept }
+{
+    match last {
+        Last::Concerns(Among::Select { own, offers, .. }, _) => {
+            match body_offered(*own, offers, accept.alternative) {
+                Some(body) => doing_sees(seen, frames, accept.region, body),
+                None => false,
+            }
+        }
+        _ => true,
     }
 }
 
@@ -170,7 +210,8 @@ fn ending_sees(code: &Code, ending: Ending, frames: usize) -> bool
         code.now.tasks.items (frames_in code.now.barriers.items) code.now.seen.items
         (plain_ending ending) frames
         × (EachSame code.now.seen.items (inside (plain_ending ending) frames) (inside_of ending)
-        × WaySees code.now.seen.items frames (way_of ending))) }
+        × (BodiesSee code.now.seen.items (plain_ending ending) frames []
+        × WaySees code.now.seen.items frames (way_of ending)))) }
 {
     let seen = &code.seen;
     match ending {
@@ -200,7 +241,7 @@ fn among_sees(code: &Code, among: &Among, frames: usize) -> bool
         code.now.tasks.items (frames_in code.now.barriers.items) code.now.seen.items
         (plain_among among.now) frames
         × (EachSame code.now.seen.items (inside (plain_among among.now) frames) (beside among.now)
-        × (BodiesSee code.now.seen.items frames (bodies_in among.now)
+        × (BodiesSee code.now.seen.items (plain_among among.now) frames (bodies_in among.now)
         × WaySees code.now.seen.items frames (way_beside among.now)))) }
 {
     let seen = &code.seen;
@@ -222,9 +263,9 @@ fn among_sees(code: &Code, among: &Among, frames: usize) -> bool
         Among::Operation { object, unit } => {
             object.level < frames && operation_sees(seen, frames, start(code, *unit))
         }
-        Among::Accept { body, .. } => doing_sees(seen, frames, *body),
+        Among::Accept { region, body, .. } => doing_sees(seen, frames, *region, *body),
         Among::Select { own, offers, .. } => {
-            doing_sees(seen, frames, *own) && offers_see(seen, frames, offers)
+            either_sees(seen, frames, *own) && offers_see(seen, frames, offers)
         }
         Among::RequeueTask { way, .. } => is_fewer(seen, way.loops, frames, way.to),
         Among::RequeueObject { object, again, way } => {
@@ -253,7 +294,7 @@ fn barrier_sees(barriers: &[Barrier], frames: usize, entry: usize) -> bool
 // Where alternatives lead, and to what their accepts do.
 fn offers_see(seen: &[usize], frames: usize, offers: &[Offer]) -> bool
     ensures { IsTrue result ↔ (EachSame seen.now frames (behind_offers offers.now)
-        × BodiesSee seen.now frames (bodies_offered offers.now)) }
+        × EitherSee seen.now frames (bodies_offered offers.now)) }
 {
     for offer in offers {
         if !offer_sees(seen, frames, *offer) {
@@ -267,15 +308,24 @@ fn offer_sees(seen: &[usize], frames: usize, offer: Offer) -> bool
     ensures { IsTrue result ↔ (Fewer seen.now 0 frames offer.behind
         × (Fewer seen.now 0 frames offer.body ⊎ Fewer seen.now 0 (suc frames) offer.body)) }
 {
-    is_fewer(seen, 0, frames, offer.behind) && doing_sees(seen, frames, offer.body)
+    is_fewer(seen, 0, frames, offer.behind) && either_sees(seen, frames, offer.body)
 }
 
-// What an accept does has one more frame, or it is what follows.
-fn doing_sees(seen: &[usize], frames: usize, body: usize) -> bool
+fn either_sees(seen: &[usize], frames: usize, body: usize) -> bool
     ensures { IsTrue result ↔
         (Fewer seen.now 0 frames body ⊎ Fewer seen.now 0 (suc frames) body) }
 {
     is_fewer(seen, 0, frames, body) || is_one_more(seen, frames, body)
+}
+
+// What an accept does has one more frame; where it does nothing, it is what follows.
+fn doing_sees(seen: &[usize], frames: usize, region: Option<usize>, body: usize) -> bool
+    ensures { IsTrue result ↔ DoingSees seen.now region frames body }
+{
+    match region {
+        Some(_) => is_one_more(seen, frames, body),
+        None => is_fewer(seen, 0, frames, body),
+    }
 }
 
 // Behind the end of a construct, whose frame is left.

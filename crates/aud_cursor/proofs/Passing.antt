@@ -38,7 +38,7 @@ pub next_spelled_there : (wanted : List ℕ) (ts : List Element) → next_spelle
 next_spelled_there wanted [] e = cc
 next_spelled_there wanted (t ∷ ts) e = omega arith
 
-pub spelled_passes : {w : Word} {wanted : List ℕ} {ts ts' : List Element} {t : Element} (r : ℕ) → spelling w ≡ wanted → next_spelled wanted ts ≡ true → ts ≡ t ∷ ts' → Passes (W w) r ts (λ ds. ds) r ts'
+pub spelled_passes : {w : Word} {wanted : List ℕ} {ts ts' : List Element} {t : Element} (r : ℕ) → spelling w ≡ wanted → next_spelled wanted ts ≡ true → ts ≡ t ∷ ts' → Passes (W w) r ts (λ ds. token t ∷ ds) r ts'
 spelled_passes {w} {wanted} {t = t} r s e is k ds v o =
     let h : is_spelled wanted t ≡ true = rw is at e in
     rw is (o_spelled (subst (λ l. is_spelled l t ≡ true) (sym s) h) o)

@@ -17,9 +17,9 @@ const CLAUSES: [Kind; 2] = [Kind::With, Kind::Use];
 fn library(start: Rest) -> Read<()>
     ensures { ReadsFlat (λ _. none) (N g.Library) start.entry result }
 {
-    let rest = spelled(start, b"ADA")?;
+    let (_, rest) = spelled(start, b"ADA")?;
     let rest = word(rest, Kind::Point)?;
-    let rest = spelled(rest, b"TEXT_IO")?;
+    let (_, rest) = spelled(rest, b"TEXT_IO")?;
     let rest = word(rest, Kind::Semicolon)?;
     Ok(((), rest))
 }

@@ -136,18 +136,17 @@ fn is_spelled(start: Rest, wanted: &[u8]) -> bool
 }
 
 /// Passes an identifier that the grammar names, by its spelling in capitals.
-pub(crate) fn spelled<'a>(start: Rest<'a>, wanted: &[u8]) -> Result<Rest<'a>, Fault<'a>>
+pub(crate) fn spelled<'a>(start: Rest<'a>, wanted: &[u8]) -> Read<'a, &'a Token<'a>>
     ensures { (word : Word) → spelling word ≡ wanted.now → ReadsSpelled word start.entry result }
 {
     if !is_spelled(start, wanted) {
         return Err(Fault::Wrong(start));
     }
-    let (_, rest) = split(start);
-    Ok(rest)
+    Ok(split(start))
 }
 
 /// Passes the name of the predefined type Duration (RM 9.6).
-pub fn duration(start: Rest) -> Result<Rest, Fault>
+pub fn duration(start: Rest) -> Read<&Token>
     ensures { ReadsSpelled Duration start.entry result }
 {
     spelled(start, b"DURATION")

@@ -80,7 +80,7 @@ bare_item (a.a_context x) = a.a_context (bare_context x)
 bare_item (a.a_unit x) = a.a_unit (bare x)
 bare_item (a.a_real x) = a.a_real (bare_real x)
 bare_item (a.seconds x) = a.seconds (bare_real x)
-bare_item (a.duration_of e) = a.duration_of (bare_expression e)
+bare_item (a.duration_of at e) = a.duration_of nowhere (bare_expression e)
 bare_item (a.a_delay x) = a.a_delay (bare_delay x)
 bare_item (a.an_entry x) = a.an_entry (bare_entry x)
 bare_item (a.a_doing x) = a.a_doing (bare_doing x)
@@ -399,7 +399,7 @@ bare_begun i _ = refl
 
 bare_delayed : (at : Pos) (x : Item) → a.delayed nowhere (bare_item x) ≡ bare_delay (a.delayed at x)
 bare_delayed at (a.seconds x) = refl
-bare_delayed at (a.duration_of e) = refl
+bare_delayed at (a.duration_of named e) = refl
 bare_delayed at _ = refl
 
 bare_the_real : (x : Item) → a.the_real (bare_item x) ≡ bare_real (a.the_real x)
@@ -574,6 +574,7 @@ pub bare_made : (p : Phrase) → is_leaf p ≡ false → (st : List Item) → ba
 bare_made g.Unit e = made_5 (λ v x y z w. a.a_unit (m.unit (a.the_contexts v) (a.place x) (a.the_ident y) (a.the_declarations z) (a.the_body w))) (λ v x y z w. cc (bare_the_contexts v, bare_place x, bare_the_ident y, bare_the_declarations z, bare_the_body w))
 bare_made g.WithClause e = made_2 (λ x y. a.a_context (m.with_text_io (a.place x))) (λ x y. cc (bare_place x))
 bare_made g.UseClause e = made_2 (λ x y. a.a_context (m.use_text_io (a.place x))) (λ x y. cc (bare_place x))
+bare_made g.Library e = made_2 (λ x y. none) (λ x y. refl)
 bare_made g.DeclarationList e = bare_listed
 bare_made g.NamedDeclaration e = made_2 (λ x y. a.a_declaration (a.declared (a.first_name x) (a.other_names x) y)) (λ x y. cc (bare_first_name x, bare_other_names x, bare_declared (a.first_name x) (a.other_names x) y))
 bare_made g.Variable e = made_2 (λ x y. a.a_variable (a.the_ident x) (a.opt_expression y)) (λ x y. cc (bare_the_ident x, bare_opt_expression y))
@@ -674,7 +675,7 @@ bare_made g.Real e = λ st. cc
 bare_made g.DelayStatement e = made_1 (λ x. a.a_statement (m.delaying (a.the_delay x))) (λ x. cc (bare_the_delay x))
 bare_made g.Delay e = made_2 (λ x y. a.a_delay (a.delayed (a.place x) y)) (λ x y. cc (bare_place x, bare_delayed (a.place x) y))
 bare_made g.Seconds e = made_1 (λ x. a.seconds (a.the_real x)) (λ x. cc (bare_the_real x))
-bare_made g.DurationOf e = made_1 (λ x. a.duration_of (a.inside x)) (λ x. cc (bare_inside x))
+bare_made g.DurationOf e = made_2 (λ x y. a.duration_of (a.place x) (a.inside y)) (λ x y. cc (bare_place x, bare_inside y))
 bare_made g.EntryDeclaration e =
     made_2 (λ x y. a.an_entry (record { name = a.the_ident x; formals = a.the_formals y }))
     (λ x y. ap (λ (z : Ident). a.an_entry (record { name = z; formals = a.the_formals (bare_item y) })) (bare_the_ident x) ∙ ap (λ (z : List m.Formal). a.an_entry (record { name = bare_ident (a.the_ident x); formals = z })) (bare_the_formals y))

@@ -135,7 +135,7 @@ pub gets_token : (c : Kind) (t : Element) (k : List Symbol) (front : List Elemen
 gets_token c t k front e h = (h.0, token t ∷ h.1, h.2, d_token e h.3)
 
 pub gets_spelled : (w : Word) (t : Element) (k : List Symbol) (front : List Element) → is_word w t ≡ true → Gets k front → Gets (W w ∷ k) (t ∷ front)
-gets_spelled w t k front e h = (h.0, h.1, h.2, d_spelled e h.3)
+gets_spelled w t k front e h = (h.0, token t ∷ h.1, h.2, d_spelled e h.3)
 
 -- its first token forgotten
 gets_less : (k : List Symbol) (t : Element) → Gets k (t ∷ []) → Gets k []

@@ -70,6 +70,9 @@ new_items {ds = ds} make h f step = record {
 token_follows : {c : Kind} {k : List Symbol} {r : ℕ} {t : Element} {ds : List Item} {v : Verdict} (u : Element) (us : List Element) → among (c ∷ []) (kind_number u.kind) ≡ true → Follows k r us ds v → Follows (P c ∷ k) r (u ∷ us) (token t ∷ ds) v
 token_follows u us h f = record { items = token u ∷ f.items; end = f.end; reads = o_token h f.reads; bared = ap (λ z. bare_item (token u) ∷ z) f.bared; ended = f.ended }
 
+spelled_follows : {w : Word} {k : List Symbol} {r : ℕ} {t : Element} {ds : List Item} {v : Verdict} (u : Element) (us : List Element) → is_word w u ≡ true → Follows k r us ds v → Follows (W w ∷ k) r (u ∷ us) (token t ∷ ds) v
+spelled_follows u us h f = record { items = token u ∷ f.items; end = f.end; reads = o_spelled h f.reads; bared = ap (λ z. bare_item (token u) ∷ z) f.bared; ended = f.ended }
+
 tested : (b : Bool) → (if b then true else false) ≡ true → b ≡ true
 tested true e = refl
 tested false e = cc
@@ -114,7 +117,7 @@ mutual
   follows (o_no_word {c} {k} {r} {ts} e) us h = fault_follows [] (Wrong ts) (Wrong us) (o_no_word (next_alike (c ∷ []) ts us h ∙ e)) (length_alike ts us h)
   follows (o_no_token {c} {k} {r} {ts} e) us h = fault_follows [] (Wrong ts) (Wrong us) (o_no_token (next_alike (c ∷ []) ts us h ∙ e)) (length_alike ts us h)
   follows (o_spelled e o) [] h = absurd h
-  follows (o_spelled {w} {k} {r} {t} {ts} {ds} {v} e o) (u ∷ us) h = same_items (follows o us h.1) (λ es w' x. o_spelled (sym (word_alike w t u h.0) ∙ e) x)
+  follows (o_spelled {w} {k} {r} {t} {ts} {ds} {v} e o) (u ∷ us) h = spelled_follows u us (sym (word_alike w t u h.0) ∙ e) (follows o us h.1)
   follows (o_misspelled {w} {k} {r} {ts} e) us h = fault_follows [] (Wrong ts) (Wrong us) (o_misspelled (next_word_alike w ts us h ∙ e)) (length_alike ts us h)
   follows (o_rule {p = g.Identifier} o) us h =
       leaf_follows o us h g.Identifier (λ x. a.an_ident (a.ident_of x)) (λ k r us es w x. o_rule x)

@@ -46,7 +46,7 @@ pub use_clause_told : {k : List Symbol} {ds : List Item} {ws : List Word} → To
 use_clause_told (t_token t (t_part says_library r)) = t_part (says_context (m.use_text_io t.at)) r
 
 pub library_told : {k : List Symbol} {ds : List Item} {ws : List Word} → Told (rule g.Library ++ k) ds ws → Told (N g.Library ∷ k) (made g.Library ds) ws
-library_told (t_spelled (t_word p (t_spelled (t_word s r)))) = t_part says_library r
+library_told (t_spelled t (t_word p (t_spelled u (t_word s r)))) = t_part says_library r
 
 pub declarations_told : {k : List Symbol} {ds : List Item} {ws : List Word} → Told (rule g.Declarations ++ k) ds ws → Told (N g.Declarations ∷ k) (made g.Declarations ds) ws
 declarations_told (t_level s (t_down r)) = t_part s r

@@ -238,8 +238,8 @@ by_word c k r t ts ds v h i n e = is_yes (kind_number t.kind == kind_number c) _
 by_token : (c : Kind) (k : List Symbol) (r : ℕ) (t : Element) (ts : List Element) (ds : List Item) (v : Verdict) → among (c ∷ []) (kind_number t.kind) ≡ true → Same k r ts ds v → Same (P c ∷ k) r (t ∷ ts) (token t ∷ ds) v
 by_token c k r t ts ds v h i n e = is_yes (kind_number t.kind == kind_number c) _ _ (one_of _ h) ∙ ap (onto (λ st. token t ∷ st)) (i budget (enough_budget k))
 
-by_spelled : (w : Word) (k : List Symbol) (r : ℕ) (t : Element) (ts : List Element) (ds : List Item) (v : Verdict) → is_word w t ≡ true → Same k r ts ds v → Same (W w ∷ k) r (t ∷ ts) ds v
-by_spelled w k r t ts ds v h i n e = is_yes (is_word w t) _ _ h ∙ i budget (enough_budget k)
+by_spelled : (w : Word) (k : List Symbol) (r : ℕ) (t : Element) (ts : List Element) (ds : List Item) (v : Verdict) → is_word w t ≡ true → Same k r ts ds v → Same (W w ∷ k) r (t ∷ ts) (token t ∷ ds) v
+by_spelled w k r t ts ds v h i n e = is_yes (is_word w t) _ _ h ∙ ap (onto (λ st. token t ∷ st)) (i budget (enough_budget k))
 
 pub same : {s : List Symbol} {r : ℕ} {ts : List Element} {ds : List Item} {v : Verdict} → Out s r ts ds v → Same s r ts ds v
 same o_end n e = refl

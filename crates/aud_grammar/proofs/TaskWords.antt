@@ -25,14 +25,14 @@ delay_statement_told (t_part (says_delay d) r) = t_part (says_statement (m.delay
 
 pub delay_told : {k : List Symbol} {ds : List Item} {ws : List Word} → Told (rule g.Delay ++ k) ds ws → Told (N g.Delay ∷ k) (made g.Delay ds) ws
 delay_told (t_token t (t_part (says_seconds x) (t_word s r))) = t_part (says_delay (m.delay_real t.at x)) r
-delay_told (t_token t (t_part (says_duration e) (t_word {ws = ws} s r))) =
-    so (t_part (says_delay (m.delay_duration t.at e)) r) (one_on _ _ _ (one_on _ _ _ (append_assoc (w.in_parentheses (w.expression_words e)) (last_word (codes ";") ∷ []) ws)))
+delay_told (t_token t (t_part (says_duration named e) (t_word {ws = ws} s r))) =
+    so (t_part (says_delay (m.delay_duration t.at named e)) r) (one_on _ _ _ (one_on _ _ _ (append_assoc (w.in_parentheses (w.expression_words e)) (last_word (codes ";") ∷ []) ws)))
 
 pub seconds_told : {k : List Symbol} {ds : List Item} {ws : List Word} → Told (rule g.Seconds ++ k) ds ws → Told (N g.Seconds ∷ k) (made g.Seconds ds) ws
 seconds_told (t_part (says_real x) r) = t_part (says_seconds x) r
 
 pub duration_of_told : {k : List Symbol} {ds : List Item} {ws : List Word} → Told (rule g.DurationOf ++ k) ds ws → Told (N g.DurationOf ∷ k) (made g.DurationOf ds) ws
-duration_of_told (t_spelled (t_part (says_parens at e) r)) = t_part (says_duration e) r
+duration_of_told (t_spelled t (t_part (says_parens at e) r)) = t_part (says_duration t.at e) r
 
 -- RM 9.1, 9.5.2
 

@@ -113,7 +113,7 @@ pub data Says : Sort → Item → List Word → Type 0 where
   says_literal : (l : Literal) → Says s_literal (a.a_literal l) (w.literal_word l ∷ [])
   says_real : (x : Real) → Says s_real (a.a_real x) (w.real_word x ∷ [])
   says_seconds : (x : Real) → Says s_time (a.seconds x) (w.real_word x ∷ [])
-  says_duration : (e : m.Expression) → Says s_time (a.duration_of e) (word (codes "DURATION") ∷ w.in_parentheses (expression_words e))
+  says_duration : (at : Pos) (e : m.Expression) → Says s_time (a.duration_of at e) (word (codes "DURATION") ∷ w.in_parentheses (expression_words e))
   says_delay : (x : m.Delay) → Says s_delay (a.a_delay x) (w.delay_words x)
   says_entry : (x : m.EntryDeclaration) → Says s_entry (a.an_entry x) (w.entry_words x)
   says_doing : (x : m.Doing) (us : List Word) → Same us (w.doing_words x) → Says s_doing (a.a_doing x) us
@@ -145,7 +145,7 @@ pub data Told : List Symbol → List Item → List Word → Type 0 where
   t_end : Told [] [] []
   t_word : {c : Kind} {k : List Symbol} {ds : List Item} {ws : List Word} (text : List ℕ) → Told k ds ws → Told (T c ∷ k) ds (written_as (kind_number c) text ∷ ws)
   t_token : {c : Kind} {k : List Symbol} {ds : List Item} {ws : List Word} (t : Element) → Told k ds ws → Told (P c ∷ k) (token t ∷ ds) (written_as (kind_number c) t.text ∷ ws)
-  t_spelled : {n : g.Word} {k : List Symbol} {ds : List Item} {ws : List Word} → Told k ds ws → Told (W n ∷ k) ds (word (f.spelling n) ∷ ws)
+  t_spelled : {n : g.Word} {k : List Symbol} {ds : List Item} {ws : List Word} (t : Element) → Told k ds ws → Told (W n ∷ k) (token t ∷ ds) (word (f.spelling n) ∷ ws)
   t_part : {p : Phrase} {k : List Symbol} {x : Item} {ds : List Item} {us ws : List Word} → Says (sort p) x us → Told k ds ws → Told (N p ∷ k) (x ∷ ds) (us ++ ws)
   t_level : {p : Phrase} {k : List Symbol} {x : Item} {ds : List Item} {us ws : List Word} → Says (sort p) x us → Told k ds ws → Told (L p ∷ k) (x ∷ ds) (us ++ ws)
   t_down : {k : List Symbol} {ds : List Item} {ws : List Word} → Told k ds ws → Told (Down ∷ k) ds ws

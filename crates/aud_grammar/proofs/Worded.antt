@@ -246,7 +246,7 @@ told : {s : List Symbol} {r : ℕ} {ds : List Item} {ts : List Element} → Deri
 told d_end = t_end
 told (d_word {c} {k} {r} {ds} {t} {ts} h d) = so (t_word t.text (told d)) (ap (λ n. written_as n t.text ∷ map written ts) (sym (is_code c (kind_number t.kind) h)))
 told (d_token {c} {k} {r} {ds} {t} {ts} h d) = so (t_token t (told d)) (ap (λ n. written_as n t.text ∷ map written ts) (sym (is_code c (kind_number t.kind) h)))
-told (d_spelled {w = n} {k} {r} {ds} {t} {ts} h d) = so (t_spelled (told d)) (ap (λ z. z ∷ map written ts) (sym (spelled_written n t h)))
+told (d_spelled {w = n} {k} {r} {ds} {t} {ts} h d) = so (t_spelled t (told d)) (ap (λ z. z ∷ map written ts) (sym (spelled_written n t h)))
 told (d_rule {p} d) = told_rule p (told d)
 told (d_level d) = told_as (λ x es us vs. t_level) (told d)
 told (d_down d) = t_down (told d)

@@ -101,9 +101,9 @@ pub data Item : Type 0 where
   a_context : m.Context → Item
   a_unit : m.Unit → Item
   a_real : Real → Item
-  -- for how long a delay is
+  -- for how long a delay is; where Duration stands
   seconds : Real → Item
-  duration_of : m.Expression → Item
+  duration_of : Pos → m.Expression → Item
   a_delay : m.Delay → Item
   an_entry : m.EntryDeclaration → Item
   a_doing : m.Doing → Item
@@ -508,12 +508,12 @@ the_real _ = record { whole = None; thousandths = None; at = no_place }
 -- the delay statement that begins at a place, by what follows `delay` (RM 9.6)
 abbrev pub delayed : Pos → Item → m.Delay
 delayed at (seconds x) = m.delay_real at x
-delayed at (duration_of e) = m.delay_duration at e
-delayed at _ = m.delay_duration at nothing
+delayed at (duration_of named e) = m.delay_duration at named e
+delayed at _ = m.delay_duration at no_place nothing
 
 abbrev pub the_delay : Item → m.Delay
 the_delay (a_delay x) = x
-the_delay _ = m.delay_duration no_place nothing
+the_delay _ = m.delay_duration no_place no_place nothing
 
 abbrev no_entry : m.EntryDeclaration
 no_entry = record { name = no_ident; formals = [] }
@@ -637,7 +637,7 @@ abbrev pub made : g.Phrase → List Item → List Item
 made g.Unit st = a_unit (m.unit (the_contexts (top st)) (place (top (pop st))) (the_ident (top (pop (pop st)))) (the_declarations (top (pop (pop (pop st))))) (the_body (top (pop (pop (pop (pop st))))))) ∷ pop (pop (pop (pop (pop st))))
 made g.WithClause st = a_context (m.with_text_io (place (top st))) ∷ pop (pop st)
 made g.UseClause st = a_context (m.use_text_io (place (top st))) ∷ pop (pop st)
-made g.Library st = none ∷ st
+made g.Library st = none ∷ pop (pop st)
 made g.DeclarationList st = listed st
 made g.NamedDeclaration st = a_declaration (declared (first_name (top st)) (other_names (top st)) (top (pop st))) ∷ pop (pop st)
 made g.Variable st = a_variable (the_ident (top st)) (opt_expression (top (pop st))) ∷ pop (pop st)
@@ -727,7 +727,7 @@ made g.Real st = a_real (real_of (top st)) ∷ pop st
 made g.DelayStatement st = a_statement (m.delaying (the_delay (top st))) ∷ pop st
 made g.Delay st = a_delay (delayed (place (top st)) (top (pop st))) ∷ pop (pop st)
 made g.Seconds st = seconds (the_real (top st)) ∷ pop st
-made g.DurationOf st = duration_of (inside (top st)) ∷ pop st
+made g.DurationOf st = duration_of (place (top st)) (inside (top (pop st))) ∷ pop (pop st)
 made g.EntryDeclaration st = an_entry (record { name = the_ident (top st); formals = the_formals (top (pop st)) }) ∷ pop (pop st)
 made g.AcceptStatement st = a_statement (m.accepting (the_accept (top st))) ∷ pop st
 made g.Accept st = an_accept (m.accept (place (top st)) (the_ident (top (pop st))) (the_formals (top (pop (pop st)))) (the_doing (top (pop (pop (pop st)))))) ∷ pop (pop (pop (pop st)))

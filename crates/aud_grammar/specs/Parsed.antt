@@ -44,7 +44,7 @@ read (t ∷ ts) n (T c ∷ k) r = if kind_number t.kind == kind_number c then re
 read [] n (P c ∷ k) r = ([], Wrong [])
 read (t ∷ ts) n (P c ∷ k) r = if kind_number t.kind == kind_number c then onto (λ st. token t ∷ st) (read ts budget k r) else ([], Wrong (t ∷ ts))
 read [] n (W w ∷ k) r = ([], Wrong [])
-read (t ∷ ts) n (W w ∷ k) r = if is_word w t then read ts budget k r else ([], Wrong (t ∷ ts))
+read (t ∷ ts) n (W w ∷ k) r = if is_word w t then onto (λ st. token t ∷ st) (read ts budget k r) else ([], Wrong (t ∷ ts))
 read ts n (Down ∷ k) r = read ts n k (suc r)
 read ts zero (N p ∷ k) r = lost
 read ts (suc n) (N p ∷ k) r = onto (made p) (read ts n (rule p ++ k) r)

@@ -17,6 +17,7 @@ pub mod FramesWays
 pub mod FramesStatements
 pub mod FramesLaw
 pub mod Numbers
+pub mod Opening
 pub mod Seeing
 pub mod SeeingStatements
 pub mod SeeingLaw

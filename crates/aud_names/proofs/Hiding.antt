@@ -1,10 +1,10 @@
 -- The set of the names that a declaration hides, as it is made.
 use denote.Ref.{Bor}
-use Rattle.std.proofs.Common.{◌≡◌, ℕ, Bool, true, false, cond, ◌||◌, List, [], ◌∷◌, Option, Some, None, refl, sym, ◌∙◌, ap}
+use Rattle.std.proofs.Common.{◌≡◌, ℕ, Bool, true, false, cond, ◌||◌, List, [], ◌∷◌, refl, ◌∙◌, ap}
 use Rattle.std.proofs.lemmas.Cmp.{nat_list_eq_equiv}
 use Rattle.std.specs.Str.{bytes_eq}
 use Rattle.aud_syntax.specs.declared.tree.Ident.{Ident}
-use Rattle.aud_names.specs.Names.{is_hidden, with_own}
+use Rattle.aud_names.specs.Names.{is_hidden}
 use Rattle.aud_names.specs.Ties.Hidden.{is_among, IsSetOf}
 
 -- a name is in the set, or still to come, where one of all the identifiers has it
@@ -34,8 +34,3 @@ or_false false = refl
 -- where none is to come, the set has all
 pub none_ahead : (names : List (Bor (List ℕ))) (all : List Ident) → IsSetAhead names [] all → IsSetOf all names
 none_ahead names all h name = or_false (is_among name.now names) ∙ h name
-
--- its procedure's name, or one of those of a declaration
-pub own_or : (name : List ℕ) (own : Option Ident) (names : List Ident) → (is_hidden name (with_own own []) || is_hidden name names) ≡ is_hidden name (with_own own names)
-own_or name None names = refl
-own_or name (Some i) names = ap (λ b. b || is_hidden name names) (sym (or_false (bytes_eq name i.name)))

@@ -131,14 +131,6 @@ is_taken name place = is_hidden name place.hidden || is_some (declared name plac
 abbrev pub is_declared : List ℕ → List Symbol → Bool
 is_declared name symbols = is_some (named_in name symbols)
 
--- within the formals of a procedure its own name is hidden besides theirs, but where a formal before them has that (RM 8.3(15, 16))
-abbrev pub own_hidden : Ident → Region → Option Ident
-own_hidden own r = if is_declared own.name r.symbols then None else Some own
-
-abbrev pub with_own : Option Ident → List Ident → List Ident
-with_own None names = names
-with_own (Some own) names = own ∷ names
-
 -- the predefined names (RM 8.6(2), A.1, A.10.1)
 abbrev pub predefined : List Symbol
 predefined =
@@ -146,6 +138,12 @@ predefined =
     ∷ (codes "FALSE", Literal false) ∷ (codes "TRUE", Literal true)
     ∷ (codes "CONSTRAINT_ERROR", Exception (Predefined Constraint)) ∷ (codes "PROGRAM_ERROR", Exception (Predefined Program)) ∷ (codes "STORAGE_ERROR", Exception (Predefined Storage)) ∷ (codes "TASKING_ERROR", Exception (Predefined Tasking))
     ∷ (codes "PUT", Builtin Put) ∷ (codes "PUT_LINE", Builtin PutLine) ∷ (codes "NEW_LINE", Builtin NewLine) ∷ []
+
+-- whether a name stands for a type or an exception that is declared in Standard (RM A.1)
+abbrev pub is_standard : Option Meaning → Bool
+is_standard (Some (ScalarType s)) = true
+is_standard (Some (Exception e)) = true
+is_standard _ = false
 
 -- the outermost region
 abbrev pub outermost : List Region

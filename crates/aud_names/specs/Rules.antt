@@ -11,7 +11,7 @@ use Rattle.aud_names.specs.declared.names.Parameter.{Parameter}
 use Rattle.aud_names.specs.declared.names.NamedParameter.{NamedParameter}
 use Rattle.aud_names.specs.declared.rules.Base.{Base}
 use Rattle.aud_names.specs.declared.rules.Base.TheVariants.{Whole, Truth, Text}
-use Rattle.aud_names.specs.Names.{Symbol, is_declared}
+use Rattle.aud_names.specs.Names.{Symbol, is_declared, named_in, predefined, is_standard}
 use Rattle.aud_typed.specs.declared.program.Subtype.{Subtype}
 use Rattle.aud_typed.specs.declared.program.Subtype.TheVariants.{Integer, Natural, Positive, Boolean}
 
@@ -25,6 +25,10 @@ name_not_declared at = record { at = at; refusal = NameNotDeclared } ∷ []
 -- a region declares a name once (RM 8.3(26)); at the second declaration
 abbrev pub declared_once : List ℕ → Pos → List Symbol → List Fault
 declared_once name at symbols = unless (not (is_declared name symbols)) (record { at = at; refusal = DeclaredTwice })
+
+-- a program has no name of a predefined type or exception, which are declared in the region that declares it (RM 8.3(26), 10.1.1); at the name
+abbrev pub program_named : List ℕ → Pos → List Fault
+program_named name at = unless (not (is_standard (named_in name predefined))) (record { at = at; refusal = DeclaredTwice })
 
 -- a name is of the kind that its place asks; at the name
 abbrev pub wrong_kind_of_name : Pos → List Fault

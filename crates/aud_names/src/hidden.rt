@@ -1,9 +1,8 @@
 // The names that a declaration hides.
 
 ghost use Rattle.std.specs.Prelude.{◌≡◌, [], ◌∷◌, List, IfOk};
-ghost use Rattle.std.specs.Option.{option_copied};
 ghost use Rattle.aud_syntax.specs.declared.tree.Ident.{Ident};
-ghost use Rattle.aud_names.specs.Names.{is_hidden, with_own};
+ghost use Rattle.aud_names.specs.Names.{is_hidden};
 ghost use Rattle.aud_names.specs.Ties.Hidden.{IsSetOf};
 
 use crate::behind::Made;
@@ -13,10 +12,8 @@ use indexmap::IndexSet;
 use std::alloc::Global;
 use std::marker::Model;
 
-/// The names of a declaration, which are hidden from all visibility until it ends (RM 8.3(16, 17)); of formals
-/// besides theirs that of their procedure.
+/// The names of a declaration, which are hidden from all visibility until it ends (RM 8.3(16, 17)).
 pub struct Hidden<'a> {
-    own: Option<&'a Ident>,
     first: &'a Ident,
     others: &'a [Ident],
     // The names of the others. In a set, so that the time for a name does not grow with their number.
@@ -27,7 +24,6 @@ pub struct Hidden<'a> {
 impl<'a> Drop for Hidden<'a> {
     fn drop(self) {
         let Hidden {
-            own: _,
             first: _,
             others: _,
             set,
@@ -39,47 +35,25 @@ impl<'a> Drop for Hidden<'a> {
 impl<'a> Model for Hidden<'a> {
     ghost Value = { List Ident };
 
-    ghost view = { λ hidden. with_own (option_copied hidden.own)
-        (hidden.first.now ∷ hidden.others.now) };
+    ghost view = { λ hidden. hidden.first.now ∷ hidden.others.now };
 
     ghost invariant = { λ hidden. IsSetOf hidden.others.now hidden.set.keys };
 }
 
 impl<'a> Hidden<'a> {
-    /// The names of a declaration, and that of the procedure, if there is one, within whose formals it stands.
-    pub fn new(
-        alloc: Global,
-        own: Option<&'a Ident>,
-        first: &'a Ident,
-        others: &'a [Ident],
-    ) -> Made<Self>
-        ensures { IfOk result (λ hidden. hidden
-            ≡ with_own (option_copied own.entry) (first.now ∷ others.now)) }
+    /// The names of a declaration.
+    pub fn new(alloc: Global, first: &'a Ident, others: &'a [Ident]) -> Made<Self>
+        ensures { IfOk result (λ hidden. hidden ≡ first.now ∷ others.now) }
     {
         let set = set_of(alloc, others)?;
-        Ok(Hidden {
-            own,
-            first,
-            others,
-            set,
-        })
+        Ok(Hidden { first, others, set })
     }
 
     /// Whether the declaration has this name.
-    #[tactic(auto, using(crate::proofs::Hiding::own_or))]
     pub fn has(&self, name: &Name) -> bool
         ensures { result ≡ is_hidden name.now self.now }
     {
-        is_own(name, self.own) || *name == self.first.name || self.set.contains(&name)
-    }
-}
-
-fn is_own(name: &Name, own: Option<&Ident>) -> bool
-    ensures { result ≡ is_hidden name.now (with_own (option_copied own.entry) []) }
-{
-    match own {
-        None => false,
-        Some(own) => *name == own.name,
+        *name == self.first.name || self.set.contains(&name)
     }
 }
 

@@ -1,10 +1,9 @@
 // Names, and what they stand for.
 
 ghost use Rattle.std.specs.Prelude.{◌≡◌, ◌∷◌, ◌&&◌, not, [], IfOk, OnOk};
-ghost use Rattle.std.specs.Option.{option_copied};
 ghost use Rattle.std.specs.Str.{bytes_eq};
 ghost use Rattle.indexmap.specs.IndexMap.{insert_entry};
-ghost use Rattle.aud_names.specs.Names.{Place as Plain, empty_region, named_in, predefined, declared, hiding, is_hidden, is_taken, own_hidden, with_own, visible, library, outermost, innermost, body_frame, next_frame, accept_frame, declaring, are_in_accept, are_in_task, awaited_task, body_come, own_task, own_region, with_entry, with_entries, task_region, running, has_cell, is_declared, is_in_own_body, named_inside, entry_named, same_cell, is_cell_of, is_own, is_inside, is_in_function, is_around, is_countable};
+ghost use Rattle.aud_names.specs.Names.{Place as Plain, empty_region, named_in, predefined, declared, hiding, is_hidden, is_taken, visible, library, outermost, innermost, body_frame, next_frame, accept_frame, declaring, are_in_accept, are_in_task, awaited_task, body_come, own_task, own_region, with_entry, with_entries, task_region, running, has_cell, is_declared, is_in_own_body, named_inside, entry_named, same_cell, is_cell_of, is_own, is_inside, is_in_function, is_around, is_countable, is_standard};
 ghost use Rattle.aud_names.specs.Objects.{awaited_object, object_come, part_named};
 ghost use Rattle.aud_names.specs.Ties.Regions.{plain_region, plain_regions, plain_place, names_in, hidden_names};
 
@@ -406,56 +405,19 @@ impl<'a> Scope<'a> {
         ensures { IfOk result (λ scope.
             scope ≡ hiding (names_in names.now) (plain_place innermost.now outer.now)) }
     {
-        let hidden = Hidden::new(innermost.alloc, None, &names.first, &names.others)?;
+        let hidden = Hidden::new(innermost.alloc, &names.first, &names.others)?;
         Ok(Scope {
             innermost,
             outer,
             hidden: Some(hidden),
         })
-    }
-
-    /// The place within the declaration of these formals of a procedure in its region.
-    pub fn within_formal(
-        own: &'a Ident,
-        innermost: &'a Region,
-        outer: &'a [&'a Region],
-        names: &'a Identifiers,
-    ) -> Made<Self>
-        ensures { IfOk result (λ scope. scope
-            ≡ hiding (with_own (own_hidden own.now (plain_region innermost.now))
-            (names_in names.now)) (plain_place innermost.now outer.now)) }
-    {
-        let own = own_hidden(own, innermost);
-        let hidden = Hidden::new(innermost.alloc, own, &names.first, &names.others)?;
-        Ok(Scope {
-            innermost,
-            outer,
-            hidden: Some(hidden),
-        })
-    }
-
-    /// The place behind the formals of a function of this name, whose declaration lasts still, in their region.
-    pub fn behind_formals(
-        own: &'a Ident,
-        innermost: &'a Region,
-        outer: &'a [&'a Region],
-    ) -> Made<Self>
-        ensures { IfOk result (λ scope. scope
-            ≡ hiding (with_own (own_hidden own.now (plain_region innermost.now)) [])
-            (plain_place innermost.now outer.now)) }
-    {
-        let scope = Scope::new(innermost, outer);
-        match own_hidden(own, innermost) {
-            None => Ok(scope),
-            Some(own) => scope.within_one(own),
-        }
     }
 
     /// The place within the declaration of this name alone.
     pub fn within_one(&self, name: &'a Ident) -> Made<Self>
         ensures { IfOk result (λ scope. scope ≡ hiding (name.now ∷ []) self.now) }
     {
-        let hidden = Hidden::new(self.alloc(), None, name, &[])?;
+        let hidden = Hidden::new(self.alloc(), name, &[])?;
         Ok(Scope {
             innermost: self.innermost,
             outer: self.outer,
@@ -637,17 +599,6 @@ pub fn task_within<'a>(
     Ok(regions)
 }
 
-// The name of a procedure within its formals, where none of those before has it.
-fn own_hidden<'a>(own: &'a Ident, region: &Region) -> Option<&'a Ident>
-    ensures { option_copied result ≡ own_hidden own.now (plain_region region.now) }
-{
-    if region.symbols.contains_key(&own.name) {
-        None
-    } else {
-        Some(own)
-    }
-}
-
 fn is_hidden(name: &Name, hidden: &Option<Hidden<'_>>) -> bool
     ensures { result ≡ is_hidden name.now (hidden_names hidden.now) }
 {
@@ -820,6 +771,16 @@ const PREDEFINED: [(&[u8], Meaning); 13] = [
     (b"PUT_LINE", Meaning::Builtin(Builtin::PutLine)),
     (b"NEW_LINE", Meaning::Builtin(Builtin::NewLine)),
 ];
+
+/// Whether it is a type or an exception that is declared in Standard (RM A.1).
+pub fn is_standard(meaning: Option<Meaning>) -> bool
+    ensures { result ≡ is_standard meaning }
+{
+    match meaning {
+        Some(Meaning::ScalarType(_)) | Some(Meaning::Exception(_)) => true,
+        _ => false,
+    }
+}
 
 /// What the outermost region declares a name to be.
 pub fn predefined(name: &Name) -> Option<Meaning>

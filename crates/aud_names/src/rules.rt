@@ -3,9 +3,9 @@
 ghost use Rattle.std.specs.Prelude.{◌≡◌, not};
 ghost use Rattle.aud_fault.specs.Least.{noted};
 ghost use Rattle.aud_names.specs.Names.{is_declared};
-ghost use Rattle.aud_names.specs.Rules.{base_of_subtype, base_asked, name_not_declared, declared_once, wrong_kind_of_name, fits, right_type, wrong_number_of_arguments, not_a_variable, right_name_at_end, right_label_at_end, no_matching_body, accept_or_count_in_place, same_mode, agree, same_parameter, conform, same_parameters, formals_conform, exit_in_loop, return_in_place, raise_in_handler, good_choice, function_call_out_of_place, number_too_large, too_many_decimals, no_change_within_function, parameter_in_barrier, not_an_entry, requeue_in_place, in_own_object, declared_outside};
+ghost use Rattle.aud_names.specs.Rules.{base_of_subtype, base_asked, name_not_declared, declared_once, program_named, wrong_kind_of_name, fits, right_type, wrong_number_of_arguments, not_a_variable, right_name_at_end, right_label_at_end, no_matching_body, accept_or_count_in_place, same_mode, agree, same_parameter, conform, same_parameters, formals_conform, exit_in_loop, return_in_place, raise_in_handler, good_choice, function_call_out_of_place, number_too_large, too_many_decimals, no_change_within_function, parameter_in_barrier, not_an_entry, requeue_in_place, in_own_object, declared_outside};
 
-use crate::names::{NamedParameter, Parameter, Symbols};
+use crate::names::{NamedParameter, Parameter, Symbols, is_standard, predefined};
 use aud_fault::fault::Least;
 use aud_syntax::tree::{Ident, Mode};
 use aud_text::name::Name;
@@ -62,6 +62,15 @@ pub fn declared_once(ident: &Ident, symbols: &Symbols, faults: &mut Least) -> bo
         return false;
     }
     true
+}
+
+/// A program has no name of a predefined type or exception (RM 8.3(26), 10.1.1).
+pub fn program_named(ident: &Ident, faults: &mut Least)
+    ensures { faults.new ≡ noted faults.old (program_named ident.now.name ident.now.at) }
+{
+    if is_standard(predefined(&ident.name)) {
+        faults.note(ident.at, Refusal::DeclaredTwice);
+    }
 }
 
 /// A name is of the kind that its place asks.

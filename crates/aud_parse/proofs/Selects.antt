@@ -31,8 +31,8 @@ use Rattle.aud_parse.proofs.Rolls.{else_is, opt_expression_is}
 pub seconds_items : (b : Box Delay Global) (begin t : Item) (ds : List Item) → b.value ≡ delay.Seconds (place begin) (real_of t) → made g.Delay (begin ∷ made g.Seconds (made g.Real (t ∷ ds))) ≡ boxed_delay_item b ∷ ds
 seconds_items b begin t ds h = ap (λ (z : Delay). a_delay (plain_delay z) ∷ ds) (sym h)
 
-pub duration_items : (b : Box Delay Global) (begin : Item) (x : Pos × Box Expression Global) (ds : List Item) → b.value ≡ delay.Duration (place begin) x.1.value → made g.Delay (begin ∷ made g.DurationOf (parens_item x ∷ ds)) ≡ boxed_delay_item b ∷ ds
-duration_items b begin x ds h = ap (λ (z : Delay). a_delay (plain_delay z) ∷ ds) (sym h)
+pub duration_items : (b : Box Delay Global) (begin named : Item) (x : Pos × Box Expression Global) (ds : List Item) → b.value ≡ delay.Duration (place begin) (place named) x.1.value → made g.Delay (begin ∷ made g.DurationOf (named ∷ parens_item x ∷ ds)) ≡ boxed_delay_item b ∷ ds
+duration_items b begin named x ds h = ap (λ (z : Delay). a_delay (plain_delay z) ∷ ds) (sym h)
 
 pub delaying_items : (b : Box Statement Global) (x : Box Delay Global) (ds : List Item) → plain_statement b.value ≡ m.delaying (plain_delay x.value) → made g.DelayStatement (boxed_delay_item x ∷ ds) ≡ boxed_statement_item b ∷ ds
 delaying_items b x ds h = ap (λ z. a_statement z ∷ ds) (sym h)

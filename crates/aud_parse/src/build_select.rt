@@ -25,16 +25,17 @@ pub fn made_seconds(alloc: Global, at: Pos, seconds: Real) -> Result<Box<Delay>,
     boxed(alloc, Delay::Seconds(at, seconds))
 }
 
-/// A delay of a Duration (RM 9.6).
+/// A delay of a Duration, which stands there (RM 9.6).
 #[inline(never)]
 pub fn made_duration(
     alloc: Global,
     at: Pos,
+    named: Pos,
     value: Box<Expression>,
 ) -> Result<Box<Delay>, AllocError>
-    ensures { IfOk result (λ b. b.value ≡ delays.Duration at value.value) }
+    ensures { IfOk result (λ b. b.value ≡ delays.Duration at named value.value) }
 {
-    boxed(alloc, Delay::Duration(at, Box::into_inner(value)))
+    boxed(alloc, Delay::Duration(at, named, Box::into_inner(value)))
 }
 
 /// An accept statement, as a statement (RM 9.5.2(3)).

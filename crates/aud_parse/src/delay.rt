@@ -26,9 +26,9 @@ fn delay_time<'a>(alloc: Global, begin: &Token, start: Rest<'a>, room: u32) -> R
         let delay = made_seconds(alloc, begin.at(), real_of(t))?;
         return Ok((delay, rest));
     }
-    let rest = duration(start)?;
+    let (named, rest) = duration(start)?;
     let (value, rest) = parens(alloc, rest, room)?;
-    let delay = made_duration(alloc, begin.at(), value.1)?;
+    let delay = made_duration(alloc, begin.at(), named.at(), value.1)?;
     Ok((delay, rest))
 }
 

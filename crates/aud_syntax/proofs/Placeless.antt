@@ -139,7 +139,7 @@ private_same (Some xs) = cc (private_items_same xs)
 
 delay_same : (x : m.Delay) → w.delay_words (bare_delay x) ≡ w.delay_words x
 delay_same (m.delay_real at x) = refl
-delay_same (m.delay_duration at e) = cc (expression_same e)
+delay_same (m.delay_duration at named e) = cc (expression_same e)
 
 names_same : (xs : m.Names) → w.more_names_words (bare_names xs) ≡ w.more_names_words xs
 names_same m.no_names = refl

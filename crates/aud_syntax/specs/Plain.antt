@@ -105,10 +105,10 @@ pub data PrivateItem : Type 0 where
   private_operation : Operation → PrivateItem
   components : Ident → List Ident → Ident → MaybeExpression → PrivateItem
 
--- where `delay` stands, and for how long: so many seconds, or Duration of an expression (RM 9.6)
+-- where `delay` stands, and for how long: so many seconds, or Duration, which stands there, of an expression (RM 9.6)
 pub data Delay : Type 0 where
   delay_real : Pos → Real → Delay
-  delay_duration : Pos → Expression → Delay
+  delay_duration : Pos → Pos → Expression → Delay
 
 -- further names, each behind a comma (RM 9.8(2))
 pub data Names : Type 0 where

@@ -526,7 +526,7 @@ fn push_delay(out: &mut Written, delay: &Delay)
 {
     match delay {
         Delay::Seconds(_, seconds) => push_seconds(out, *seconds),
-        Delay::Duration(_, seconds) => push_duration(out, seconds),
+        Delay::Duration(_, _, seconds) => push_duration(out, seconds),
     }
 }
 

@@ -907,15 +907,15 @@ impl Drop for AcceptStatement {
 /// A delay statement (RM 9.6), and where its `delay` stands.
 pub enum Delay {
     Seconds(Pos, Real),
-    /// Duration of an expression.
-    Duration(Pos, Expression),
+    /// Duration, which stands there, of an expression.
+    Duration(Pos, Pos, Expression),
 }
 
 impl Drop for Delay {
     fn drop(self) {
         match self {
             Delay::Seconds(_, _) => {}
-            Delay::Duration(_, value) => drop(value),
+            Delay::Duration(_, _, value) => drop(value),
         }
     }
 }

@@ -33,6 +33,7 @@ returns-in-None c =
     record {
       answer = judged_fine (faults u) (typed u) e ∙ (ap Ok (sym c.in_ok-program.ensures.1) ∙ ap (λ p. Ok (plain_program p)) (sym c.new.ensures));
       scoped = subst (λ p. IsScoped (plain_program p)) (sym c.new.ensures) (subst IsScoped (sym c.in_ok-program.ensures.1) (typed_scoped u (none_noted (faults u) e)));
+      declares = subst (λ p. DeclaresInParts (plain_program p)) (sym c.new.ensures) (subst DeclaresInParts (sym c.in_ok-program.ensures.1) (typed_declares u));
     }
 
 pub returns-in-Some-clause-answer : goal.returns-in-Some-clause-answer

@@ -20,6 +20,7 @@ use Rattle.aud_check_bodies.specs.Operations as operations
 use Rattle.aud_check_bodies.specs.Operations.{Head, of_entry, of_procedure, of_function, BodyPlaces}
 use Rattle.aud_check_bodies.specs.Tasks as tasks
 use Rattle.aud_check_bodies.specs.Declarations as d
+use Rattle.aud_check_bodies.specs.Formals.{body_formals}
 use Rattle.aud_check_bodies.specs.Regions as regions
 use Rattle.aud_check_bodies.specs.Statements as s
 use Rattle.aud_check_bodies.specs.Statements.{Around, nothing_around, task_around}
@@ -29,7 +30,7 @@ use Rattle.aud_check_bodies.proofs.Scoping.EntryTables.{entries_grow}
 use Rattle.aud_check_bodies.proofs.Scoping.ObjectTables.{parts_grow, parts_distinct}
 
 exceptions_grow : (is : List Ident) (n : Place) (t : Tables) → Grows t (d.checked_exceptions is n t).tables
-exceptions_grow is n t = record { more_regions = []; more_profiles = []; more_tasks = []; more_entry_profiles = []; regions = sym (append-nil t.regions); profiles = sym (append-nil t.profiles); tasks = sym (append-nil t.tasks); even = omega arith; exceptions = exceptions_more is (d.exceptions_in n t.exceptions); objects = omega arith; distinct = λ z. z; entry_profiles = sym (append-nil t.entry_profiles); entries = omega arith; planned = λ n lt. refl }
+exceptions_grow is n t = record { more_regions = []; more_profiles = []; more_tasks = []; more_entry_profiles = []; regions = sym (append-nil t.regions); profiles = sym (append-nil t.profiles); tasks = sym (append-nil t.tasks); even = omega arith; exceptions = exceptions_more is (d.exceptions_in n t.exceptions); objects = omega arith; distinct = λ z. z; stay = λ n lt. refl; entry_profiles = sym (append-nil t.entry_profiles); entries = omega arith; planned = λ n lt. refl }
 
 loop_grows : (i : plain.Iteration) (n : Place) (t : Tables) → Grows t (s.loop_tables i n t)
 loop_grows plain.forever n t = same t
@@ -121,7 +122,7 @@ procedure_grows : (at : Pos) (i : Ident) (fs : List plain.Formal) (ds : plain.De
 unfolding DeclarationGrows
 procedure_grows at i fs ds b n t f g =
     let here : Place = s.procedure_place i n t in
-    let formals = s.procedure_formals i fs here in
+    let formals = body_formals fs n in
     let inner : Place = names.place_in formals.region here.regions in
     let kept : Tables = unit_kept formals.profile t in
     let unit = s.checked_unit false at i.name ds b inner kept in
@@ -320,11 +321,11 @@ operation_of_grows : (head : Head) (at : Pos) (i : Ident) (fs : List plain.Forma
     → ((m : Place) (u : Tables) → DeclarationsGrow ds m u) → ((within : Around) (m : Place) (u : Tables) → BodyGrows b within m u) → Grows t (s.checked_operation_of head at i fs ds b o awaited t).tables
 operation_of_grows head at i fs ds b o awaited t f g =
     let here : Place = operations.operation_place head o in
-    let region = (operations.shape_of head i fs here).region in
+    let region = (operations.shape_of head fs here).region in
     let found = operations.part_awaited head i o awaited in
     let inner : Place = names.place_in region here.regions in
     let entry : Tables = operations.operation_tables head found region here t in
-    let around : Around = s.operation_around head i fs o.object here in
+    let around : Around = s.operation_around head fs o.object here in
     let unit = s.checked_operation_unit head at i fs ds b o.object here inner entry in
     put_grows (operations.operation_unit found t) unit.made t unit.tables (further {u = entry} (operation_tables_grow head found region here t) (entering_grows false ds b around inner entry (f inner (region_kept entry)) (g around)))
 

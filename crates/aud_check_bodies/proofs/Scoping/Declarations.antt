@@ -12,7 +12,7 @@ use Rattle.aud_typed.specs.declared.program.Subtype.{Subtype}
 use Rattle.aud_typed.specs.declared.program.Subtype.TheVariants.{Integer, Natural, Positive, Boolean}
 use Rattle.aud_typed.specs.declared.program.Exception.TheVariants as exception_of
 use Rattle.aud_typed.specs.Tree as tree
-use Rattle.aud_typed.specs.Why.Scoped.{Elaborated, Scope, none_yet, cells_at, in_innermost, declared_up_to, declared_with, scope_after, shown_cells, cells_of, all_of_table, all_formals, StatementScoped}
+use Rattle.aud_typed.specs.Why.Scoped.{Elaborated, Scope, none_yet, cells_at, in_innermost, declared_up_to, declared_with, scope_after, shown_cells, cells_of, all_of_table, all_formals, IsTaskEntry, StatementScoped}
 use Rattle.aud_fault.specs.declared.fault.Fault.{Fault}
 use Rattle.aud_names.specs.declared.names.NamedParameter.{NamedParameter}
 use Rattle.aud_names.specs.declared.names.Parameter.{Parameter}
@@ -35,7 +35,7 @@ use Rattle.aud_check_bodies.specs.Entries as entries
 use Rattle.aud_check_bodies.specs.Formals as f
 use Rattle.aud_check_bodies.specs.Regions as regions
 use Rattle.aud_check_bodies.specs.Tasks as tasks
-use Rattle.aud_check_bodies.proofs.Scoping.Names.{Known, when, IsCallable, IsTaskType, IsEntry, EntriesThere, PartsThere, MeaningScoped, VisibleScoped, SymbolsScoped, RegionsScoped, Fits, either, regions_more, regions_when, regions_scoped, regions_see, later, symbols_later, parts_later, regions_later}
+use Rattle.aud_check_bodies.proofs.Scoping.Names.{Known, when, IsCallable, IsTaskType, EntriesThere, PartsThere, MeaningScoped, VisibleScoped, SymbolsScoped, RegionsScoped, Fits, either, regions_more, regions_when, regions_scoped, regions_see, later, symbols_later, parts_later, regions_later}
 use Rattle.aud_check_bodies.proofs.Scoping.Elaborations.{Elaborates, AllCreated, none_created, one_created}
 use Rattle.aud_check_bodies.proofs.Scoping.Expressions.{initial_scoped}
 
@@ -277,12 +277,12 @@ exceptions_awaited (i ∷ is) x = exceptions_awaited is (d.with_exception i x) �
 pub procedure_awaited : (i : Ident) (unit : ℕ) (r : Region) → waits_in (d.with_procedure i unit r) ≡ waits_in r
 procedure_awaited i unit r = either (λ (z : Region). waits_in z ≡ waits_in r) (names.is_declared i.name r.symbols) r (record r { symbols = r.symbols ++ (i.name, Procedure unit) ∷ [] }) refl refl
 
-pub formals_awaited : (own : Option Ident) (fs : List plain.Formal) (r : Region) (around : List Region) → waits_in (f.checked_formals own fs r around).region ≡ waits_in r
-formals_awaited own [] r around = refl
-formals_awaited own (plain.formal first others mode mark ∷ fs) r around =
+pub formals_awaited : (fs : List plain.Formal) (r : Region) (around : List Region) → waits_in (f.checked_formals fs r around).region ≡ waits_in r
+formals_awaited [] r around = refl
+formals_awaited (plain.formal first others mode mark ∷ fs) r around =
     let is : List Ident = first ∷ others in
-    let kind : Kind = f.formal_kind mode (d.subtype_meant (f.mark_meant own is mark r around)) in
-    formals_awaited own fs (d.declared_names is kind r) around ∙ names_awaited is kind r
+    let kind : Kind = f.formal_kind mode (d.subtype_meant (d.marked mark is (names.place_in r around))) in
+    formals_awaited fs (d.declared_names is kind r) around ∙ names_awaited is kind r
 
 objects_as_awaited : (m : Option ℕ) (is : List Ident) (at : Pos) (mark : Ident) (initial : plain.MaybeExpression) (is_constant : Bool) (n : Place) → waits_in (names.innermost (d.objects_as m is at mark initial is_constant n).made.place) ≡ waits_in (names.innermost n)
 objects_as_awaited None is at mark initial is_constant n = names_awaited is (d.scalar (d.subtype_meant (d.marked mark is n)) is_constant) (names.innermost n)
@@ -545,22 +545,22 @@ module _ (known : Known) (outer : Scope) (full : Elaborated) where
 
   -- formals are the first names of their region, each with one cell
 
-  pub formals_scoped : (own : Option Ident) (fs : List plain.Formal) (r : Region) (around : List Region) → (f.checked_formals own fs r around).faults ≡ [] → RegionScoped known outer full r
-      → RegionScoped known outer full (f.checked_formals own fs r around).region
-      × ((f.checked_formals own fs r around).region.names ≡ r.names + length (f.checked_formals own fs r around).profile)
-      × ((f.checked_formals own fs r around).region.cells ≡ r.cells + length (f.checked_formals own fs r around).profile)
-  formals_scoped own [] r around q h = (h, omega arith, omega arith)
-  formals_scoped own (plain.formal first others mode mark ∷ fs) r around q h =
+  pub formals_scoped : (fs : List plain.Formal) (r : Region) (around : List Region) → (f.checked_formals fs r around).faults ≡ [] → RegionScoped known outer full r
+      → RegionScoped known outer full (f.checked_formals fs r around).region
+      × ((f.checked_formals fs r around).region.names ≡ r.names + length (f.checked_formals fs r around).profile)
+      × ((f.checked_formals fs r around).region.cells ≡ r.cells + length (f.checked_formals fs r around).profile)
+  formals_scoped [] r around q h = (h, omega arith, omega arith)
+  formals_scoped (plain.formal first others mode mark ∷ fs) r around q h =
       let is : List Ident = first ∷ others in
-      let m = f.mark_meant own is mark r around in
+      let m = d.marked mark is (names.place_in r around) in
       let t : Option Subtype = d.subtype_meant m in
-      let one = f.checked_formal own (plain.formal first others mode mark) r around in
-      let parts = both_none one.faults (f.checked_formals own fs one.region around).faults q in
+      let one = f.checked_formal (plain.formal first others mode mark) r around in
+      let parts = both_none one.faults (f.checked_formals fs one.region around).faults q in
       let all = objects_declared known outer full is t (f.is_in mode) r (both_none (d.subtype_faults m mark.at) _ parts.0).1 h in
-      let rest = formals_scoped own fs one.region around parts.1 all.0 in
+      let rest = formals_scoped fs one.region around parts.1 all.0 in
       let parameter : Parameter = record { mode = mode; subtype = t } in
       let own_count : length one.profile ≡ length is = length-map is (λ (i : Ident). record { name = i.name; parameter = parameter }) in
-      let count = length-append one.profile (f.checked_formals own fs one.region around).profile in
+      let count = length-append one.profile (f.checked_formals fs one.region around).profile in
       (rest.0, omega (arith, rest.1, all.1, own_count, count), omega (arith, rest.2, all.2, own_count, count))
 
   -- the place of a block's declarations, that of a loop's statements, and that of a task's declarations
@@ -587,19 +587,19 @@ module _ (known : Known) (outer : Scope) (full : Elaborated) where
 
   -- a task's entries are declared with its body's declarations
 
-  entry_added : (name : List ℕ) (number : ℕ) (r : Region) → IsEntry known number → RegionScoped known outer full r → 1 ≤ r.cells → RegionScoped known outer full (record r { symbols = r.symbols ++ (name, Entry (record { number = number; owner = Single (names.own_cell r.level) })) ∷ [] })
+  entry_added : (name : List ℕ) (number : ℕ) (r : Region) → IsTaskEntry known.plan number → RegionScoped known outer full r → 1 ≤ r.cells → RegionScoped known outer full (record r { symbols = r.symbols ++ (name, Entry (record { number = number; owner = Single (names.own_cell r.level) })) ∷ [] })
   entry_added name number r there h own =
       let s : Symbol = (name, Entry (record { number = number; owner = Single (names.own_cell r.level) })) in
       record {
         level = h.level;
-        symbols = λ c e more enough. All-push (λ x. MeaningScoped (when c known) (outer ++ e ∷ []) x.1) r.symbols s (h.symbols c e more enough) (there, own_cell r.level e h.level (omega (arith, own, more)));
+        symbols = λ c e more enough. All-push (λ x. MeaningScoped (when c known) (outer ++ e ∷ []) x.1) r.symbols s (h.symbols c e more enough) (there.0, (own_cell r.level e h.level (omega (arith, own, more)), there.1));
         named = omega (arith, names_shown r.symbols (s ∷ []), h.named);
         celled = omega (arith, cells_shown r.symbols (s ∷ []), h.celled);
         entries = h.entries;
         parts = h.parts;
       }
 
-  entry_scoped : (name : List ℕ) (number : ℕ) (r : Region) → IsEntry known number → RegionScoped known outer full r × (r.cells ≡ 1) × (r.names ≡ 1) → RegionScoped known outer full (names.with_entry name number r) × ((names.with_entry name number r).cells ≡ 1) × ((names.with_entry name number r).names ≡ 1)
+  entry_scoped : (name : List ℕ) (number : ℕ) (r : Region) → IsTaskEntry known.plan number → RegionScoped known outer full r × (r.cells ≡ 1) × (r.names ≡ 1) → RegionScoped known outer full (names.with_entry name number r) × ((names.with_entry name number r).cells ≡ 1) × ((names.with_entry name number r).names ≡ 1)
   entry_scoped name number r there h =
       either (λ (z : Region). RegionScoped known outer full z × (z.cells ≡ 1) × (z.names ≡ 1)) (names.is_declared name r.symbols) r _ h (entry_added name number r there h.0 (omega (arith, h.1)), h.1, h.2)
 

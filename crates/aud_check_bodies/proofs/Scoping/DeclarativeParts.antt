@@ -7,7 +7,7 @@ use Rattle.aud_syntax.specs.declared.tree.Ident.{Ident}
 use Rattle.aud_syntax.specs.Plain as plain
 use Rattle.aud_typed.specs.Tree as tree
 use Rattle.aud_typed.specs.Tree.{Plan}
-use Rattle.aud_typed.specs.Why.Scoped.{Scope, no_task, table, Elaborated, Entry, entry_of, all_formals, AreOpen, BodyScoped, UnitScoped}
+use Rattle.aud_typed.specs.Why.Scoped.{Scope, no_task, no_entry_plan, table, Elaborated, Entry, entry_of, all_formals, AreOpen, BodyScoped, UnitScoped}
 use Rattle.aud_names.specs.declared.names.NamedParameter.{NamedParameter}
 use Rattle.aud_names.specs.declared.awaited.Awaited.{Awaited}
 use Rattle.aud_names.specs.declared.array.Kind.TheVariants.{Protected}
@@ -15,10 +15,11 @@ use Rattle.aud_names.specs.declared.entries.EntryName.{EntryName}
 use Rattle.aud_names.specs.Names as names
 use Rattle.aud_names.specs.Names.{Region, Place}
 use Rattle.aud_names.specs.Rules as rules
-use Rattle.aud_check_bodies.specs.Tables.{Tables, Outcome, no_body, region_kept, unit_kept, with_unit, task_kept}
+use Rattle.aud_check_bodies.specs.Tables.{Tables, Outcome, entry_at, no_body, region_kept, unit_kept, with_unit, task_kept}
 use Rattle.aud_check_bodies.specs.Entries as declared
 use Rattle.aud_check_bodies.specs.Objects as objects
 use Rattle.aud_check_bodies.specs.Declarations as d
+use Rattle.aud_check_bodies.specs.Formals.{body_formals}
 use Rattle.aud_check_bodies.specs.Tasks as tasks
 use Rattle.aud_check_bodies.specs.Statements as s
 use Rattle.aud_check_bodies.specs.Statements.{Around, nothing_around, task_around}
@@ -128,7 +129,7 @@ module _ (plan : Plan) (entries : List Entry) where
       let number = length t.units in
       let before = names.innermost n in
       let here : Place = s.procedure_place i n t in
-      let formals = s.procedure_formals i fs here in
+      let formals = body_formals fs n in
       let kept : Tables = unit_kept formals.profile t in
       let inner : Place = names.place_in formals.region here.regions in
       let scope : Scope = outer ++ full ∷ [] in
@@ -137,8 +138,8 @@ module _ (plan : Plan) (entries : List Entry) where
       let unit = s.checked_unit false at i.name ds b inner kept in
       let rest = in_entered ds b nothing_around inner kept scope in
       let once = rules.declared_once i.name i.at before.symbols in
-      let parts = both_none (once ++ formals.faults) (unit.faults ++ []) q in
-      let heads = both_none once formals.faults parts.0 in
+      let parts = both_none (formals.faults ++ once) (unit.faults ++ []) q in
+      let heads = both_none formals.faults once parts.0 in
       let stated = both_none o.faults (rules.right_name_at_end i.name (s.end_name b) ++ []) (both_none unit.faults [] parts.1).0 in
       let g0 = unit_grows formals.profile t in
       let g1 = entered_grows false ds b nothing_around inner kept in
@@ -153,14 +154,14 @@ module _ (plan : Plan) (entries : List Entry) where
       let known_before = body_grown plan entries t kept outer full n g0 inside in
       let same_frame : elaborated (names.innermost here) ≡ elaborated before = procedure_elaborates i number before in
       let same_cells : (names.innermost here).cells ≡ before.cells = ap (λ z. z.cells) same_frame in
-      let behind_name : InBody (seen plan entries kept) outer full here = record { innermost = procedure_scoped (seen plan entries kept) outer full i number before callable heads.0 known_before.innermost; others = λ c e1 more. known_before.others c e1 (omega (arith, more, same_cells)) } in
+      let behind_name : InBody (seen plan entries kept) outer full here = record { innermost = procedure_scoped (seen plan entries kept) outer full i number before callable heads.1 known_before.innermost; others = λ c e1 more. known_before.others c e1 (omega (arith, more, same_cells)) } in
       let around : (c : Bool) → RegionsScoped (when c (seen plan entries kept)) scope here.regions = λ c. body_regions (seen plan entries kept) outer full c here full behind_name enough (λ z. omega arith) in
-      let level : (names.innermost here).level + 1 ≡ length scope = omega (arith, behind_name.innermost.level, length_push outer full) in
-      let formed = λ (all : Elaborated). formals_scoped (seen plan entries kept) scope all (Some i) fs (names.body_frame here) here.regions heads.1 (empty_scoped (seen plan entries kept) scope all _ level) in
+      let level : before.level + 1 ≡ length scope = omega (arith, known_before.innermost.level, length_push outer full) in
+      let formed = λ (all : Elaborated). formals_scoped (seen plan entries kept) scope all fs (names.body_frame n) n.regions heads.0 (empty_scoped (seen plan entries kept) scope all _ level) in
       let begun : elaborated formals.region ≡ all_formals (length formals.profile) = counted_frame formals.region.names formals.region.cells (length formals.profile) (formed full).1 (formed full).2 in
       let within : (all : Elaborated) → InBody (seen plan entries kept) scope all inner = λ all. record { innermost = (formed all).0; others = λ c e1 more. regions_more (when c (seen plan entries kept)) scope e1 here.regions (around c) } in
       let ready = second_ready entries t kept (own ∷ []) rest g0 (length_push t.units no_body) r in
-      let nothing_waits = formals_awaited (Some i) fs (names.body_frame here) here.regions in
+      let nothing_waits = formals_awaited fs (names.body_frame n) n.regions in
       let body = entering_fine plan entries false ds b nothing_around inner kept scope (f inner (region_kept kept) scope) (g nothing_around) within nothing_waits (record { regions = p.regions; exceptions = p.exceptions; objects = p.objects; entries = p.entries; tasks = p.tasks }) ready stated.0 in
       let whole : IsUnit plan entries unit.made number =
       subst (λ z. UnitScoped plan entries (tree.unit_plan unit.made) unit.made.body z) (sym first_entry) ((formed full).0.level, subst (λ z. BodyScoped plan entries o.made z (table plan (length t.regions)) scope) begun body.0) in
@@ -169,9 +170,11 @@ module _ (plan : Plan) (entries : List Entry) where
 
   -- tasks
 
-  entries_in_plan : (t : Tables) (xs : List EntryName) (u : Tables) → ((n : ℕ) → n < length u.entries → n < length plan.entries) → Numbered xs u → EntriesThere (seen plan entries t) xs
+  entries_in_plan : (t : Tables) (xs : List EntryName) (u : Tables) → ((n : ℕ) → n < length u.entries → (n < length plan.entries) × (slice_index_or plan.entries n no_entry_plan ≡ tree.plan_of_entry (entry_at n u))) → Numbered xs u → EntriesThere (seen plan entries t) xs
   entries_in_plan t [] u e h = tt
-  entries_in_plan t (x ∷ xs) u e h = (e x.number h.0, entries_in_plan t xs u e h.1)
+  entries_in_plan t (x ∷ xs) u e h =
+      let there = e x.number h.0.0 in
+      ((there.0, ap (λ (z : tree.EntryPlan). z.unit) there.1 ∙ h.0.1), entries_in_plan t xs u e h.1)
 
   -- barriers of tasks' entries are True
 
@@ -217,7 +220,7 @@ module _ (plan : Plan) (entries : List Entry) where
       } in
       let grown = further {u = es.tables} (entries_grow number xs here.regions start) (task_grows numbers es.tables) in
       let known_before = body_grown plan entries t u outer full n grown inside in
-      let all_there : EntriesThere (seen plan entries u) es.names = entries_in_plan t es.names es.tables (λ k lt. (p.entries k lt).0) (entries_numbered number xs here.regions start tt) in
+      let all_there : EntriesThere (seen plan entries u) es.names = entries_in_plan t es.names es.tables p.entries (entries_numbered number xs here.regions start tt) in
       let scoped = task_scoped (seen plan entries u) outer full at is_type i number unit es.names n begins all_there once known_before in
       let a : Awaited = record { name = i.name; task_type = number; unit = unit; at = i.at } in
       let waits : waits_in (tasks.with_task is_type i number unit before) ≡ record (waits_in before) { tasks = before.awaited ++ a ∷ [] } = task_waits is_type i number unit before once in

@@ -26,7 +26,7 @@ use Rattle.aud_check_bodies.specs.Operations as operations
 use Rattle.aud_check_bodies.specs.Operations.{Head, of_entry, of_function, BodyPlaces}
 use Rattle.aud_check_bodies.specs.Tasks as tasks
 use Rattle.aud_check_bodies.specs.Declarations as d
-use Rattle.aud_check_bodies.specs.Formals.{Formals}
+use Rattle.aud_check_bodies.specs.Formals.{Formals, body_formals}
 use Rattle.aud_check_bodies.specs.Regions as regions
 use Rattle.aud_check_bodies.specs.Statements as s
 use Rattle.aud_check_bodies.specs.Statements.{Around, nothing_around, task_around}
@@ -72,9 +72,9 @@ of_operation profile frames = record { formals = length profile; outer = frames 
 
 -- what calls see of an operation or entry
 abbrev pub operation_profile : plain.Operation → List Region → ObjectDeclared → List NamedParameter
-operation_profile (plain.entry_operation e) outer x = (objects.operation_formals e.name e.formals x.own (objects.further_out x outer)).profile
-operation_profile (plain.procedure_operation i fs) outer x = (objects.operation_formals i fs x.own (objects.further_out x outer)).profile
-operation_profile (plain.function_operation i fs mark) outer x = (objects.function_signature i fs mark x.own (objects.further_out x outer)).0
+operation_profile (plain.entry_operation e) outer x = (objects.operation_formals e.formals x.own (objects.further_out x outer)).profile
+operation_profile (plain.procedure_operation i fs) outer x = (objects.operation_formals fs x.own (objects.further_out x outer)).profile
+operation_profile (plain.function_operation i fs mark) outer x = (objects.function_signature fs mark x.own (objects.further_out x outer)).0
 
 abbrev pub in_operations : ℕ → List plain.Operation → List Region → ObjectDeclared → Scope → List Entry
 in_operations object [] outer x frames = []
@@ -104,7 +104,7 @@ of_found (Some k) frames = []
 abbrev pub of_body_of : Head → Ident → List plain.Formal → (Place → Tables → List Entry) → BodyPlaces → List AwaitedPart → Tables → Scope → List Entry
 of_body_of head i fs within o awaited t frames =
     let here = operations.operation_place head o in
-    let region = (operations.shape_of head i fs here).region in
+    let region = (operations.shape_of head fs here).region in
     let found = operations.part_awaited head i o awaited in
     of_found found frames ++ within (names.place_in region here.regions) (operations.operation_tables head found region here t)
 
@@ -175,7 +175,7 @@ abbrev mutual
   pub in_declaration : plain.Declaration → Place → Tables → Scope → List Entry
   in_declaration (plain.procedure at i fs ds b) n t scope =
       let here : Place = s.procedure_place i n t in
-      let f : Formals = s.procedure_formals i fs here in
+      let f : Formals = body_formals fs n in
       let inner : Place = names.place_in f.region here.regions in
       let kept : Tables = unit_kept f.profile t in
       of_procedure f scope (of_entered (λ own. in_declarations ds inner (region_kept kept) own) (λ m u within. in_body b nothing_around m u within) (s.checked_declarations ds inner (region_kept kept)) kept scope)
@@ -199,18 +199,18 @@ abbrev mutual
 
   pub in_operation : plain.OperationBody → BodyPlaces → List AwaitedPart → Tables → Scope → List Entry
   in_operation (plain.entry_body at i fs barrier ds b) o awaited t frames =
-      of_body_of (of_entry barrier) i fs (λ inner kept. of_entered (λ own. in_declarations ds inner (region_kept kept) own) (λ m u within. in_body b (s.operation_around (of_entry barrier) i fs o.object o.inside) m u within) (s.checked_declarations ds inner (region_kept kept)) kept frames) o awaited t frames
+      of_body_of (of_entry barrier) i fs (λ inner kept. of_entered (λ own. in_declarations ds inner (region_kept kept) own) (λ m u within. in_body b (s.operation_around (of_entry barrier) fs o.object o.inside) m u within) (s.checked_declarations ds inner (region_kept kept)) kept frames) o awaited t frames
   in_operation (plain.procedure_body at i fs ds b) o awaited t frames =
-      of_body_of operations.of_procedure i fs (λ inner kept. of_entered (λ own. in_declarations ds inner (region_kept kept) own) (λ m u within. in_body b (s.operation_around operations.of_procedure i fs o.object o.inside) m u within) (s.checked_declarations ds inner (region_kept kept)) kept frames) o awaited t frames
+      of_body_of operations.of_procedure i fs (λ inner kept. of_entered (λ own. in_declarations ds inner (region_kept kept) own) (λ m u within. in_body b (s.operation_around operations.of_procedure fs o.object o.inside) m u within) (s.checked_declarations ds inner (region_kept kept)) kept frames) o awaited t frames
   in_operation (plain.function_body at i fs mark ds b) o awaited t frames =
-      of_body_of (of_function mark) i fs (λ inner kept. of_entered (λ own. in_declarations ds inner (region_kept kept) own) (λ m u within. in_body b (s.operation_around (of_function mark) i fs o.object o.in_function) m u within) (s.checked_declarations ds inner (region_kept kept)) kept frames) o awaited t frames
+      of_body_of (of_function mark) i fs (λ inner kept. of_entered (λ own. in_declarations ds inner (region_kept kept) own) (λ m u within. in_body b (s.operation_around (of_function mark) fs o.object o.in_function) m u within) (s.checked_declarations ds inner (region_kept kept)) kept frames) o awaited t frames
 
 abbrev pub in_entered : plain.Declarations → plain.Body → Around → Place → Tables → Scope → List Entry
 in_entered ds b around n t outer = of_entered (λ inner. in_declarations ds n (region_kept t) inner) (λ m u inner. in_body b around m u inner) (s.checked_declarations ds n (region_kept t)) t outer
 
 -- the same of the body of an operation by what it is of
 abbrev pub in_operation_of : Head → Ident → List plain.Formal → plain.Declarations → plain.Body → BodyPlaces → List AwaitedPart → Tables → Scope → List Entry
-in_operation_of head i fs ds b o awaited t frames = of_body_of head i fs (λ inner kept. in_entered ds b (s.operation_around head i fs o.object (operations.operation_place head o)) inner kept frames) o awaited t frames
+in_operation_of head i fs ds b o awaited t frames = of_body_of head i fs (λ inner kept. in_entered ds b (s.operation_around head fs o.object (operations.operation_place head o)) inner kept frames) o awaited t frames
 
 -- As many as are declared. That stands under a name of its own for each construct, so that the recursion below looks at nothing else.
 
@@ -330,7 +330,7 @@ procedure_counted : (at : Pos) (i : Ident) (fs : List plain.Formal) (ds : plain.
 unfolding DeclarationCounted
 procedure_counted at i fs ds b n t outer f g =
     let here : Place = s.procedure_place i n t in
-    let formals : Formals = s.procedure_formals i fs here in
+    let formals : Formals = body_formals fs n in
     let inner : Place = names.place_in formals.region here.regions in
     let kept : Tables = unit_kept formals.profile t in
     let own = s.checked_unit false at i.name ds b inner kept in
@@ -560,11 +560,11 @@ operation_of_counted : (head : Head) (at : Pos) (i : Ident) (fs : List plain.For
     → ((m : Place) (u : Tables) (scope : Scope) → DeclarationsCounted ds m u scope) → ((within : Around) (m : Place) (u : Tables) (inner : Scope) → BodyCounted b within m u inner) → length (s.checked_operation_of head at i fs ds b o awaited t).tables.units ≡ length t.units + length (in_operation_of head i fs ds b o awaited t frames)
 operation_of_counted head at i fs ds b o awaited t frames f g =
     let here : Place = operations.operation_place head o in
-    let region = (operations.shape_of head i fs here).region in
+    let region = (operations.shape_of head fs here).region in
     let found = operations.part_awaited head i o awaited in
     let inner : Place = names.place_in region here.regions in
     let kept : Tables = operations.operation_tables head found region here t in
-    let around : Around = s.operation_around head i fs o.object here in
+    let around : Around = s.operation_around head fs o.object here in
     let own = s.checked_operation_unit head at i fs ds b o.object here inner kept in
     let within = in_entered ds b around inner kept frames in
     let count = entering_counted false ds b around inner kept frames (f inner (region_kept kept)) (g around) in

@@ -8,7 +8,7 @@ use Rattle.std.proofs.lemmas.List.{length-append, get_or_append_left}
 use Rattle.aud_syntax.specs.Plain as plain
 use Rattle.aud_typed.specs.declared.program.Variable.{Variable}
 use Rattle.aud_typed.specs.Tree.{Plan}
-use Rattle.aud_typed.specs.Why.Scoped.{Elaborated, Scope, cells_at, IsElaborated, AreElaborated, IsThere, Entry, entry_of, AreOpen, AreAround, entry_unit, no_task}
+use Rattle.aud_typed.specs.Why.Scoped.{Elaborated, Scope, cells_at, IsElaborated, AreElaborated, IsThere, Entry, entry_of, AreOpen, AreAround, entry_unit, IsTaskEntry, no_task}
 use Rattle.aud_names.specs.declared.entries.EntryName.{EntryName}
 use Rattle.aud_names.specs.declared.names.NamedParameter.{NamedParameter}
 use Rattle.aud_names.specs.declared.names.Owner.{Owner}
@@ -74,10 +74,10 @@ pub record IsEntryBody (known : Known) (scope : Scope) (number : ℕ) : Type 0 w
   pub entered : entry_unit known.plan number < length known.entries
   pub outer : known.complete ≡ true → AreAround (entry_of known.entries (entry_unit known.plan number)).outer scope
 
--- an entry may be called: it is there, and the cell with its task's or object's number is elaborated
+-- an entry may be called: it is there, one of tasks has no body, and the cell with its task's or object's number is elaborated
 abbrev pub OwnerScoped : Known → ℕ → Owner → Scope → Type 0
-OwnerScoped known number (Single v) scope = IsElaborated v scope
-OwnerScoped known number (Element a) scope = AreElaborated (task_array_at a) scope
+OwnerScoped known number (Single v) scope = IsElaborated v scope × (entry_unit known.plan number ≡ 0)
+OwnerScoped known number (Element a) scope = AreElaborated (task_array_at a) scope × (entry_unit known.plan number ≡ 0)
 OwnerScoped known number (owner.Object x) scope = IsElaborated x.variable scope × IsEntryBody known scope number
 
 abbrev pub IsEntry : Known → ℕ → Type 0
@@ -93,7 +93,7 @@ abbrev pub PartsThere : Known → Scope → List ObjectPart → Type 0
 PartsThere known scope ps = AllByRecursion (λ p. PartScoped known scope p.part.kind) ps
 
 abbrev pub EntriesThere : Known → List EntryName → Type 0
-EntriesThere known xs = AllByRecursion (λ x. IsEntry known x.number) xs
+EntriesThere known xs = AllByRecursion (λ x. IsTaskEntry known.plan x.number) xs
 
 -- what has this meaning may be used
 abbrev pub MeaningScoped : Known → Scope → Meaning → Type 0
@@ -121,7 +121,7 @@ RegionsScoped known scope rs = AllByRecursion (λ r. SymbolsScoped known scope r
 -- all that is visible may be used, each entry of a task is there, and what objects declare may be used from outside
 pub record Sees (known : Known) (scope : Scope) (n : Place) : Type 0 where
   pub visible : (name : List ℕ) → VisibleScoped known scope (names.visible name n)
-  pub entries : (name : List ℕ) (task_type : ℕ) → IfSome (names.entry_named name task_type n.regions) (λ k. IsEntry known k)
+  pub entries : (name : List ℕ) (task_type : ℕ) → IfSome (names.entry_named name task_type n.regions) (λ k. IsTaskEntry known.plan k)
   pub parts : (name : List ℕ) (object : ℕ) → IfSome (objects.part_named name object n.regions) (λ c. PartScoped known scope c.kind)
   pub inside : (name : List ℕ) (v : Variable) → VisibleScoped known scope (names.named_inside name v n.regions)
 
@@ -182,8 +182,8 @@ module _ (known : Known) (scope : Scope) (e : Elaborated) where
   entry_body_more number h = record { entered = h.entered; outer = λ c. around_more (entry_of known.entries (entry_unit known.plan number)).outer scope e (h.outer c) }
 
   owner_more : (number : ℕ) (x : Owner) → OwnerScoped known number x scope → OwnerScoped known number x (scope ++ e ∷ [])
-  owner_more number (Single v) h = omega (arith, h, cells_more v.level scope e)
-  owner_more number (Element a) h = omega (arith, h, cells_more a.first.level scope e)
+  owner_more number (Single v) h = (omega (arith, h.0, cells_more v.level scope e), h.1)
+  owner_more number (Element a) h = (omega (arith, h.0, cells_more a.first.level scope e), h.1)
   owner_more number (owner.Object x) h = (omega (arith, h.0, cells_more x.variable.level scope e), entry_body_more number h.1)
 
   part_more : (k : PartKind) → PartScoped known scope k → PartScoped known (scope ++ e ∷ []) k
@@ -229,15 +229,15 @@ module _ (known : Known) (scope : Scope) where
   inside_scoped name v [] h = tt
   inside_scoped name v (r ∷ rs) h = either (VisibleScoped known scope) (names.has_cell v r) _ _ (All-lookup (MeaningScoped known scope) (bytes_eq name) r.symbols h.0.0) (inside_scoped name v rs h.1)
 
-  entry_in_there : (name : List ℕ) (task_type : ℕ) (xs : List EntryName) → EntriesThere known xs → IfSome (names.entry_in name task_type xs) (λ k. IsEntry known k)
+  entry_in_there : (name : List ℕ) (task_type : ℕ) (xs : List EntryName) → EntriesThere known xs → IfSome (names.entry_in name task_type xs) (λ k. IsTaskEntry known.plan k)
   entry_in_there name task_type [] h = tt
-  entry_in_there name task_type (x ∷ xs) h = either (λ o. IfSome o (λ k. IsEntry known k)) (nat_eq task_type x.task_type && bytes_eq name x.name) (Some x.number) _ h.0 (entry_in_there name task_type xs h.1)
+  entry_in_there name task_type (x ∷ xs) h = either (λ o. IfSome o (λ k. IsTaskEntry known.plan k)) (nat_eq task_type x.task_type && bytes_eq name x.name) (Some x.number) _ h.0 (entry_in_there name task_type xs h.1)
 
-  or_there : (x y : Option ℕ) → IfSome x (λ k. IsEntry known k) → IfSome y (λ k. IsEntry known k) → IfSome (names.or_outside x y) (λ k. IsEntry known k)
+  or_there : (x y : Option ℕ) → IfSome x (λ k. IsTaskEntry known.plan k) → IfSome y (λ k. IsTaskEntry known.plan k) → IfSome (names.or_outside x y) (λ k. IsTaskEntry known.plan k)
   or_there None y h i = i
   or_there (Some k) y h i = h
 
-  entry_there : (name : List ℕ) (task_type : ℕ) (rs : List Region) → RegionsScoped known scope rs → IfSome (names.entry_named name task_type rs) (λ k. IsEntry known k)
+  entry_there : (name : List ℕ) (task_type : ℕ) (rs : List Region) → RegionsScoped known scope rs → IfSome (names.entry_named name task_type rs) (λ k. IsTaskEntry known.plan k)
   entry_there name task_type [] h = tt
   entry_there name task_type (r ∷ rs) h = or_there (names.entry_in name task_type r.entries) _ (entry_in_there name task_type r.entries h.0.1) (entry_there name task_type rs h.1)
 
@@ -268,9 +268,9 @@ module _ (known : Known) (scope : Scope) where
 
   -- what names denote
 
-  entry_selected_scoped : (k : Option ℕ) (x : Owner) (b : Bool) (p : plain.NamePart) (ps : plain.Parts) → IfSome k (λ m. IsEntry known m) → ((m : ℕ) → OwnerScoped known m x scope) → VisibleScoped known scope (resolution.entry_selected k x b p ps).denoted.meaning
+  entry_selected_scoped : (k : Option ℕ) (x : Owner) (b : Bool) (p : plain.NamePart) (ps : plain.Parts) → IfSome k (λ m. IsTaskEntry known.plan m) → ((m : ℕ) → entry_unit known.plan m ≡ 0 → OwnerScoped known m x scope) → VisibleScoped known scope (resolution.entry_selected k x b p ps).denoted.meaning
   entry_selected_scoped None x b p ps h i = tt
-  entry_selected_scoped (Some k) x b p ps h i = either (λ (y : Resolved). VisibleScoped known scope y.denoted.meaning) (resolution.is_last ps) _ _ (h, i k) tt
+  entry_selected_scoped (Some k) x b p ps h i = either (λ (y : Resolved). VisibleScoped known scope y.denoted.meaning) (resolution.is_last ps) _ _ (h.0, i k h.1) tt
 
   -- what is found behind an object's name outside its body
   kind_selected_scoped : (k : PartKind) (x : Instance) (p : plain.NamePart) (ps : plain.Parts) → PartScoped known scope k → IsElaborated x.variable scope → names.is_inside x.access ≡ false → VisibleScoped known scope (resolution.kind_selected k x p ps).denoted.meaning
@@ -296,9 +296,9 @@ module _ (known : Known) (scope : Scope) (n : Place) (sees : Sees known scope n)
 
   selected_scoped : (m : Meaning) (p : plain.NamePart) (ps : plain.Parts) → MeaningScoped known scope m → VisibleScoped known scope (resolution.selected m p ps n).denoted.meaning
   selected_scoped (Task t) (plain.part i plain.no_args) (plain.more_parts q qs) h =
-      entry_selected_scoped known scope (names.entry_named (resolution.part_ident q).name t.task_type n.regions) (Single t.variable) (names.is_in_own_body i.name t.variable (resolution.part_ident q).name n.regions) q qs (sees.entries (resolution.part_ident q).name t.task_type) (λ m. h)
+      entry_selected_scoped known scope (names.entry_named (resolution.part_ident q).name t.task_type n.regions) (Single t.variable) (names.is_in_own_body i.name t.variable (resolution.part_ident q).name n.regions) q qs (sees.entries (resolution.part_ident q).name t.task_type) (λ m z. (h, z))
   selected_scoped (TaskArray a) (plain.part i (plain.more_args e es)) (plain.more_parts q qs) h =
-      entry_selected_scoped known scope (names.entry_named (resolution.part_ident q).name a.task_type n.regions) (Element a) false q qs (sees.entries (resolution.part_ident q).name a.task_type) (λ m. h)
+      entry_selected_scoped known scope (names.entry_named (resolution.part_ident q).name a.task_type n.regions) (Element a) false q qs (sees.entries (resolution.part_ident q).name a.task_type) (λ m z. (h, z))
   selected_scoped (Protected x) (plain.part i plain.no_args) (plain.more_parts q qs) h = object_selected_scoped (names.is_inside x.access) x q qs refl h
   selected_scoped (Array a) (plain.part i (plain.more_args e es)) (plain.more_parts q qs) h = tt
   selected_scoped _ p ps h = tt

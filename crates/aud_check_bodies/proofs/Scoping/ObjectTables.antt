@@ -12,9 +12,9 @@ use Rattle.aud_check_bodies.specs.Objects as objects
 use Rattle.aud_check_bodies.proofs.Scoping.Tables.{Grows, same, further, unit_grows, protected_entry_grows}
 
 pub operation_grows : (object : ℕ) (is_private : Bool) (x : plain.Operation) (outer : List Region) (o : objects.ObjectDeclared) → Grows o.tables (objects.one_operation object is_private x outer o).tables
-operation_grows object is_private (plain.entry_operation e) outer o = protected_entry_grows e.name.name (objects.operation_formals e.name e.formals o.own (objects.further_out o outer)).profile o.tables
-operation_grows object is_private (plain.procedure_operation i fs) outer o = unit_grows (objects.operation_formals i fs o.own (objects.further_out o outer)).profile o.tables
-operation_grows object is_private (plain.function_operation i fs mark) outer o = unit_grows (objects.function_signature i fs mark o.own (objects.further_out o outer)).0 o.tables
+operation_grows object is_private (plain.entry_operation e) outer o = protected_entry_grows e.name.name (objects.operation_formals e.formals o.own (objects.further_out o outer)).profile o.tables
+operation_grows object is_private (plain.procedure_operation i fs) outer o = unit_grows (objects.operation_formals fs o.own (objects.further_out o outer)).profile o.tables
+operation_grows object is_private (plain.function_operation i fs mark) outer o = unit_grows (objects.function_signature fs mark o.own (objects.further_out o outer)).0 o.tables
 
 pub item_grows : (object : ℕ) (x : plain.PrivateItem) (outer : List Region) (o : objects.ObjectDeclared) → Grows o.tables (objects.one_item object x outer o).tables
 item_grows object (plain.private_operation x) outer o = operation_grows object true x outer o
@@ -36,7 +36,7 @@ parts_grow name operations hidden n t =
 
 -- Each entry of an object has the next number, so none stands twice in it.
 
-abbrev Below : ℕ → List ℕ → Type 0
+abbrev pub Below : ℕ → List ℕ → Type 0
 Below k ns = AllByRecursion (λ n. n < k) ns
 
 below_more : (ns : List ℕ) (j k : ℕ) → j ≤ k → Below j ns → Below k ns
@@ -51,7 +51,7 @@ is_not_last : (n : ℕ) (ms : List ℕ) (k : ℕ) → n < k → IsNot n ms → I
 is_not_last n [] k lt h = (ne_eqb n k (λ e. omega (arith, e, lt)), tt)
 is_not_last n (m ∷ ms) k lt h = (h.0, is_not_last n ms k lt h.1)
 
-distinct_last : (ns : List ℕ) (k : ℕ) → Below k ns → AreDistinct ns → AreDistinct (ns ++ k ∷ [])
+pub distinct_last : (ns : List ℕ) (k : ℕ) → Below k ns → AreDistinct ns → AreDistinct (ns ++ k ∷ [])
 distinct_last [] k h once = (tt, tt)
 distinct_last (n ∷ ns) k h once = (is_not_last n ns k h.0 once.0, distinct_last ns k h.1 once.1)
 

@@ -1,6 +1,7 @@
 -- What protected objects declare, and the frames of their bodies.
 use Rattle.std.specs.Prelude.{IfSome, map, nat_eq, if◌then◌else◌}
 use Rattle.std.specs.Str.{bytes_eq}
+use Rattle.std.specs.List.{AllByRecursion}
 use Rattle.std.proofs.Common.{◌≡◌, ◌⊎◌, inl, inr, ◌&&◌, is_some, ℕ, suc, ◌+◌, ◌<◌, ◌≤◌, Bool, true, false, List, [], ◌∷◌, ◌++◌, length, slice_index_or, Option, Some, None, arith, refl, sym, ◌∙◌, ap, subst}
 use Rattle.std.proofs.lemmas.List.{length-append, length-map, length_push, get_or_push, get_or_append_left}
 use Rattle.std.proofs.lemmas.List.Elements.{All-from_recursion, All-nil, All-push}
@@ -9,7 +10,7 @@ use Rattle.aud_syntax.specs.Plain as plain
 use Rattle.aud_typed.specs.declared.program.Subtype.{Subtype}
 use Rattle.aud_typed.specs.Tree as tree
 use Rattle.aud_typed.specs.Tree.{Plan}
-use Rattle.aud_typed.specs.Why.Scoped.{Elaborated, Scope, none_yet, cells_at, Entry, entry_of, declared_with, own_number, ComponentsScoped, ValueScoped, BooleanScoped}
+use Rattle.aud_typed.specs.Why.Scoped.{Elaborated, Scope, none_yet, cells_at, Entry, entry_of, entry_unit, declared_with, own_number, ComponentsScoped, ValueScoped, BooleanScoped}
 use Rattle.aud_names.specs.declared.awaited.AwaitedPart.{AwaitedPart}
 use Rattle.aud_names.specs.declared.names.Access.{Access}
 use Rattle.aud_names.specs.declared.names.Access.TheVariants.{Outside}
@@ -47,13 +48,13 @@ use Rattle.aud_check_bodies.proofs.Scoping.Units.{Stay, IsUnit, IsUnitOf, EachIs
 
 -- Values of components, each of which sees those before it.
 
-values_append : (xs ys : List tree.ValueExpression) (own : Elaborated) (scope : Scope) (k : ℕ) → k ≤ own.cells + length xs → ComponentsScoped xs own scope → ((e : Elaborated) → k ≤ e.cells → ComponentsScoped ys e scope) → ComponentsScoped (xs ++ ys) own scope
-values_append [] ys own scope k more h f = f own (omega (arith, more))
-values_append (x ∷ xs) ys own scope k more h f = (h.0, values_append xs ys (declared_with 1 own) scope k (omega (arith, more)) h.1 f)
+values_append : (plan : Plan) (xs ys : List tree.ValueExpression) (own : Elaborated) (scope : Scope) (k : ℕ) → k ≤ own.cells + length xs → ComponentsScoped plan xs own scope → ((e : Elaborated) → k ≤ e.cells → ComponentsScoped plan ys e scope) → ComponentsScoped plan (xs ++ ys) own scope
+values_append plan [] ys own scope k more h f = f own (omega (arith, more))
+values_append plan (x ∷ xs) ys own scope k more h f = (h.0, values_append plan xs ys (declared_with 1 own) scope k (omega (arith, more)) h.1 f)
 
-same_values : (v : tree.ValueExpression) (is : List Ident) (e : Elaborated) (scope : Scope) (k : ℕ) → k ≤ e.cells → ((f : Elaborated) → k ≤ f.cells → ValueScoped v (scope ++ f ∷ [])) → ComponentsScoped (map (λ i. v) is) e scope
-same_values v [] e scope k more h = tt
-same_values v (i ∷ is) e scope k more h = (h e more, same_values v is (declared_with 1 e) scope k (omega (arith, more)) h)
+same_values : (plan : Plan) (v : tree.ValueExpression) (is : List Ident) (e : Elaborated) (scope : Scope) (k : ℕ) → k ≤ e.cells → ((f : Elaborated) → k ≤ f.cells → ValueScoped plan v (scope ++ f ∷ [])) → ComponentsScoped plan (map (λ i. v) is) e scope
+same_values plan v [] e scope k more h = tt
+same_values plan v (i ∷ is) e scope k more h = (h e more, same_values plan v is (declared_with 1 e) scope k (omega (arith, more)) h)
 
 -- Cells of parts.
 
@@ -113,7 +114,9 @@ module _ (plan : Plan) (entries : List Entry) where
     pub around : x.around ≡ record (named.around_object name (named.body_instance number Outside n) n) { parts = x.around.parts }
     pub its : OfObject number x.around.parts
     pub are : PartsAre plan entries base x.tables frames number x.around.parts
-    pub values : ComponentsScoped x.values own_number scope
+    pub values : ComponentsScoped plan x.values own_number scope
+    pub count : length x.tables.objects ≡ length t.objects
+    pub levels : AllByRecursion (λ k. (entry_of entries (entry_unit plan k)).outer ≡ frames) x.entries
     pub cells : x.own.cells ≤ 1 + length x.values
     pub grows : Grows t x.tables
     pub waits : (m : ℕ) → length t.units ≤ m → m < length x.tables.units → IsUnitOf m (awaited_parts number x.around.parts)
@@ -130,6 +133,8 @@ module _ (plan : Plan) (entries : List Entry) where
     its = tt;
     are = tt;
     values = tt;
+    count = refl;
+    levels = tt;
     cells = omega arith;
     grows = same t;
     waits = λ m after before. absurd (omega (arith, after, before));
@@ -137,11 +142,19 @@ module _ (plan : Plan) (entries : List Entry) where
     barred = λ b. b;
   }
 
+  numbers_level : (frames : Scope) (ns : List ℕ) (n : ℕ) → AllByRecursion (λ k. (entry_of entries (entry_unit plan k)).outer ≡ frames) ns → (entry_of entries (entry_unit plan n)).outer ≡ frames → AllByRecursion (λ k. (entry_of entries (entry_unit plan k)).outer ≡ frames) (ns ++ n ∷ [])
+  numbers_level frames [] n h i = (i, tt)
+  numbers_level frames (m ∷ ms) n h i = (h.0, numbers_level frames ms n h.1 i)
+
+  pub all_lengths : (frames : Scope) (ns : List ℕ) (count : ℕ) → length frames ≡ count → AllByRecursion (λ k. (entry_of entries (entry_unit plan k)).outer ≡ frames) ns → AllByRecursion (λ k. length (entry_of entries (entry_unit plan k)).outer ≡ count) ns
+  all_lengths frames [] count e h = tt
+  all_lengths frames (n ∷ ns) count e h = (ap length h.0 ∙ e, all_lengths frames ns count e h.1)
+
   -- one operation or entry more, which has the next unit
   operation_added : (base : ℕ) (t : Tables) (n : Place) (name : List ℕ) (number : ℕ) (frames scope : Scope) (x : ObjectDeclared) (is_private : Bool) (i : Ident) (k : PartKind) (u : Tables) (numbers : List ℕ)
-      → Declaring base t n name number frames scope x → Grows x.tables u → u.units ≡ x.tables.units ++ no_body ∷ [] → PartIs plan entries base u frames k → named.part_cells k ≡ 0 → awaits k i.at ≡ (record { unit = length x.tables.units; at = i.at }) ∷ [] → (Barred plan entries x.tables → Barred plan entries u)
+      → Declaring base t n name number frames scope x → Grows x.tables u → u.units ≡ x.tables.units ++ no_body ∷ [] → PartIs plan entries base u frames k → named.part_cells k ≡ 0 → awaits k i.at ≡ (record { unit = length x.tables.units; at = i.at }) ∷ [] → (Barred plan entries x.tables → Barred plan entries u) → length u.objects ≡ length x.tables.objects → AllByRecursion (λ j. (entry_of entries (entry_unit plan j)).outer ≡ frames) numbers
       → Declaring base t n name number frames scope (record (objects.with_operation number is_private i k x) { entries = numbers; tables = u })
-  operation_added base t n name number frames scope x is_private i k u numbers h g e is none its_unit b =
+  operation_added base t n name number frames scope x is_private i k u numbers h g e is none its_unit b count levels =
       let level = (names.innermost n).level + 1 in
       let ps = x.around.parts in
       let p : ObjectPart = objects.object_part number is_private i k in
@@ -158,6 +171,8 @@ module _ (plan : Plan) (entries : List Entry) where
         its = of_object_append number ps (p ∷ []) h.its (refl, tt);
         are = parts_are_append plan entries base u frames number ps (p ∷ []) (parts_grown plan entries base x.tables u frames number ps g h.are) ((λ z. is), tt);
         values = h.values;
+        count = count ∙ h.count;
+        levels = levels;
         cells = omega (arith, part_cells i.name k (own_instance x.own.level number Outside) x.own, none, h.cells);
         grows = further {u = x.tables} h.grows g;
         waits = λ m after before.
@@ -210,19 +225,20 @@ module _ (plan : Plan) (entries : List Entry) where
       let profile = operation_profile (plain.entry_operation e) n.regions x in
       let u : Tables = protected_entry_kept e.name.name profile x.tables in
       let its : entry_of entries (length x.tables.units) ≡ of_operation profile frames = ap (entry_of entries) (omega arith) ∙ r.each 0 (omega arith) in
+      let one = entry_is base t x.tables frames e.name.name profile (omega (arith, after, h.grows.even)) r.even_entries (omega (arith, r.long)) its p in
       operation_added base t n name number frames scope x is_private e.name (part.Entry (length x.tables.entries) (length x.tables.units)) u (x.entries ++ length x.tables.entries ∷ []) h (protected_entry_grows e.name.name profile x.tables) refl
-      (entry_is base t x.tables frames e.name.name profile (omega (arith, after, h.grows.even)) r.even_entries (omega (arith, r.long)) its p) refl refl (barred_push plan entries x.tables u (protected_entry e.name.name (length x.tables.units)) refl refl)
+      one refl refl (barred_push plan entries x.tables u (protected_entry e.name.name (length x.tables.units)) refl refl) refl (numbers_level frames x.entries (length x.tables.entries) h.levels (ap (λ k. (entry_of entries k).outer) one.planned ∙ one.outer))
   one_declared base t n name number frames scope x is_private (plain.procedure_operation i fs) rest after h r p =
       let profile = operation_profile (plain.procedure_operation i fs) n.regions x in
       let its : entry_of entries (length x.tables.units) ≡ of_operation profile frames = ap (entry_of entries) (omega arith) ∙ r.each 0 (omega arith) in
       operation_added base t n name number frames scope x is_private i (part.Operation (length x.tables.units) Procedure) (unit_kept profile x.tables) x.entries h (unit_grows profile x.tables) refl
-      (unit_is base x.tables frames profile (omega (arith, after, h.grows.even)) r.even (omega (arith, r.long)) its) refl refl (λ b. b)
+      (unit_is base x.tables frames profile (omega (arith, after, h.grows.even)) r.even (omega (arith, r.long)) its) refl refl (λ b. b) refl h.levels
   one_declared base t n name number frames scope x is_private (plain.function_operation i fs mark) rest after h r p =
       let profile = operation_profile (plain.function_operation i fs mark) n.regions x in
-      let s = (objects.function_signature i fs mark x.own (objects.further_out x n.regions)).1 in
+      let s = (objects.function_signature fs mark x.own (objects.further_out x n.regions)).1 in
       let its : entry_of entries (length x.tables.units) ≡ of_operation profile frames = ap (entry_of entries) (omega arith) ∙ r.each 0 (omega arith) in
       operation_added base t n name number frames scope x is_private i (part.Operation (length x.tables.units) (Function s)) (unit_kept profile x.tables) x.entries h (unit_grows profile x.tables) refl
-      (unit_is base x.tables frames profile (omega (arith, after, h.grows.even)) r.even (omega (arith, r.long)) its) refl refl (λ b. b)
+      (unit_is base x.tables frames profile (omega (arith, after, h.grows.even)) r.even (omega (arith, r.long)) its) refl refl (λ b. b) refl h.levels
 
   pub operations_declared : (base : ℕ) (t : Tables) (n : Place) (name : List ℕ) (number : ℕ) (frames scope : Scope) (x : ObjectDeclared) (xs : List plain.Operation) → base ≤ length t.units → Declaring base t n name number frames scope x
       → Ready entries x.tables (in_operations number xs n.regions x frames) → InPlan plan t (objects.declared_operations number xs n.regions x).tables → Declaring base t n name number frames scope (objects.declared_operations number xs n.regions x)
@@ -276,7 +292,7 @@ module _ (plan : Plan) (entries : List Entry) where
       let qs = objects.component_parts number is k in
       let place : Place = names.hiding is (names.place_in x.own rest) in
       let v : tree.ValueExpression = d.initial_value initial s place in
-      let one : (e : Elaborated) → 1 + length x.values ≤ e.cells → ValueScoped v (here ++ e ∷ []) = λ e more.
+      let one : (e : Elaborated) → 1 + length x.values ≤ e.cells → ValueScoped plan v (here ++ e ∷ []) = λ e more.
       let scope : Scope = here ++ e ∷ [] in
       let known : Known = when false (seen plan entries x.tables) in
       initial_scoped known scope place (regions_see known scope place (own_regions base t n name number frames outer full e x inside h (omega (arith, more)) (omega (arith, more, h.cells)))) initial s in
@@ -290,7 +306,9 @@ module _ (plan : Plan) (entries : List Entry) where
         around = ap (objects.with_object_parts qs) h.around;
         its = of_object_append number ps qs h.its (components_of number is k);
         are = parts_are_append plan entries base x.tables frames number ps qs h.are (components_are base x.tables frames number s is);
-        values = values_append x.values (map (λ i. v) is) own_number here (1 + length x.values) (omega arith) h.values (λ e more. same_values v is e here (1 + length x.values) more one);
+        values = values_append plan x.values (map (λ i. v) is) own_number here (1 + length x.values) (omega arith) h.values (λ e more. same_values plan v is e here (1 + length x.values) more one);
+        count = h.count;
+        levels = h.levels;
         cells = omega (arith, all_cells is k (own_instance x.own.level number Outside) x.own, h.cells, count);
         grows = h.grows;
         waits = λ m after before. subst (IsUnitOf m) (sym same_units) (unit_of_append m (awaited_parts number ps) [] (h.waits m after before));
@@ -415,8 +433,8 @@ module _ (plan : Plan) (entries : List Entry) where
   pub barrier_barred : (base : ℕ) (t : Tables) (frames : Scope) (head : Head) (k : PartKind) (formals : Region) (here : Place) → RegionsScoped (seen plan entries t) frames here.regions → PartIs plan entries base t frames k → Barred plan entries t → Barred plan entries (operations.barrier_kept (Some k) (operations.barrier_of head formals here) t)
   barrier_barred base t frames (of_entry barrier) (part.Entry number unit) formals here around h b =
       let known : Known = seen plan entries t in
-      let fine : BooleanScoped (conditions.condition barrier (named.barrier_place formals here)) frames = condition_scoped known frames (named.barrier_place formals here) (barrier_sees plan entries known frames formals here around) barrier in
-      barred_put plan entries t number (conditions.condition barrier (named.barrier_place formals here)) (subst (λ z. BooleanScoped (conditions.condition barrier (named.barrier_place formals here)) z) (sym (ap (λ k. (entry_of entries k).outer) h.own ∙ h.outer)) fine) b
+      let fine : BooleanScoped plan (conditions.condition barrier (named.barrier_place formals here)) frames = condition_scoped known frames (named.barrier_place formals here) (barrier_sees plan entries known frames formals here around) barrier in
+      barred_put plan entries t number (conditions.condition barrier (named.barrier_place formals here)) (subst (λ z. BooleanScoped plan (conditions.condition barrier (named.barrier_place formals here)) z) (sym (ap (λ k. (entry_of entries k).outer) h.own ∙ h.outer)) fine) b
   barrier_barred base t frames of_procedure (part.Entry number unit) formals here around h b = b
   barrier_barred base t frames (of_function mark) (part.Entry number unit) formals here around h b = b
   barrier_barred base t frames head (part.Operation unit subprogram) formals here around h b = b

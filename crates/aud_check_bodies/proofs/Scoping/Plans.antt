@@ -3,7 +3,7 @@ use Rattle.std.proofs.Common.{◌≡◌, ◌<◌, ◌≤◌, ℕ, true, List, []
 use Rattle.std.proofs.lemmas.List.{length_push, length-append, length-set, get_or-set_same, get_or-set_other, get_or_append_left, get_or_push}
 use Rattle.aud_typed.specs.Tree as tree
 use Rattle.aud_typed.specs.Tree.{Plan}
-use Rattle.aud_typed.specs.Why.Scoped.{table, no_task, no_entry_plan, Entry}
+use Rattle.aud_typed.specs.Why.Scoped.{table, no_task, no_object, no_entry_plan, Entry}
 use Rattle.aud_check_bodies.specs.Tables.{Tables, with_region, region_kept, region_named, entry_at}
 use Rattle.aud_check_bodies.proofs.Scoping.Names.{Known}
 use Rattle.aud_check_bodies.proofs.Scoping.Tables.{Grows}
@@ -11,7 +11,7 @@ use Rattle.aud_check_bodies.proofs.Scoping.Tables.{Grows}
 pub record InPlan (plan : Plan) (t u : Tables) : Type 0 where
   pub regions : (n : ℕ) → length t.regions ≤ n → n < length u.regions → table plan n ≡ slice_index_or u.regions n []
   pub exceptions : length u.exceptions ≤ length plan.exceptions
-  pub objects : length u.objects ≤ length plan.objects
+  pub objects : (n : ℕ) → n < length u.objects → (n < length plan.objects) × (slice_index_or plan.objects n no_object ≡ slice_index_or u.objects n no_object)
   pub entries : (n : ℕ) → n < length u.entries → (n < length plan.entries) × (slice_index_or plan.entries n no_entry_plan ≡ tree.plan_of_entry (entry_at n u))
   pub tasks : (n : ℕ) → n < length u.tasks → (n < length plan.tasks) × (slice_index_or plan.tasks n no_task ≡ slice_index_or u.tasks n no_task)
 
@@ -24,7 +24,9 @@ module _ (plan : Plan) where
   first_in_plan t u v g h = record {
     regions = λ n after before. h.regions n after (omega (arith, before, regions_longer u v g)) ∙ ap (λ z. slice_index_or z n []) g.regions ∙ get_or_append_left u.regions g.more_regions [] n before;
     exceptions = omega (arith, g.exceptions, h.exceptions);
-    objects = omega (arith, g.objects, h.objects);
+    objects = λ n lt.
+        let there = h.objects n (omega (arith, lt, g.objects)) in
+        (there.0, there.1 ∙ g.stay n lt);
     entries = λ n lt.
         let there = h.entries n (omega (arith, lt, g.entries)) in
         (there.0, there.1 ∙ g.planned n lt);

@@ -6,7 +6,7 @@ use Rattle.aud_typed.specs.Tree as tree
 use Rattle.aud_typed.specs.Tree.{Plan}
 use Rattle.aud_typed.specs.Why.Scoped.{Elaborated, Entry, no_entry, no_entry_plan, entry_of, BooleanScoped, BarriersScoped, UnitScoped, UnitsScoped, IsScoped}
 use Rattle.aud_names.specs.Names.{Place, main_place}
-use Rattle.aud_names.specs.Rules.{right_name_at_end}
+use Rattle.aud_names.specs.Rules.{program_named, right_name_at_end}
 use Rattle.aud_check_bodies.specs.Tables.{Tables, no_body, with_unit}
 use Rattle.aud_check_bodies.specs.Statements as s
 use Rattle.aud_check_bodies.specs.Statements.{nothing_around, end_name}
@@ -18,6 +18,8 @@ use Rattle.aud_check_bodies.proofs.Scoping.ConstructTables.{entered_grows}
 use Rattle.aud_check_bodies.proofs.Scoping.Plans.{InPlan, seen}
 use Rattle.aud_check_bodies.proofs.Scoping.Entries.{Ready, in_entered, entered_counted}
 use Rattle.aud_check_bodies.proofs.Scoping.Units.{unit_at, IsUnit}
+use Rattle.aud_check_bodies.proofs.Scoping.Owning.{typed_owned}
+use Rattle.aud_check_bodies.proofs.Scoping.Leaving.{typed_numbers}
 use Rattle.aud_check_bodies.proofs.Scoping.AllConstructs.{entered_scoped}
 
 -- each of a list, by its number
@@ -31,7 +33,7 @@ units_from plan entries (u ∷ us) (e ∷ es) long h = (h 0 (omega arith), units
 
 -- each barrier, by its entry's number
 barriers_from : (plan : Plan) (entries : List Entry) (es : List tree.EntryBody)
-    → ((n : ℕ) → n < length es → BooleanScoped (slice_index_or es n (tree.task_entry [])).barrier (entry_of entries (slice_index_or es n (tree.task_entry [])).unit).outer)
+    → ((n : ℕ) → n < length es → BooleanScoped plan (slice_index_or es n (tree.task_entry [])).barrier (entry_of entries (slice_index_or es n (tree.task_entry [])).unit).outer)
     → BarriersScoped plan entries (map tree.plan_of_entry es) (map (λ e. e.barrier) es)
 barriers_from plan entries [] h = tt
 barriers_from plan entries (e ∷ es) h = (h 0 (omega arith), barriers_from plan entries es (λ n lt. h (suc n) (omega (arith, lt))))
@@ -51,17 +53,17 @@ typed_scoped (plain.unit context at name declarations b) q =
     let plan = (c.program_with name.name last).plan in
     let rest = in_entered declarations b nothing_around place main_tables [] in
     let entries : List Entry = no_entry ∷ rest in
-    let stated = both_none o.faults (right_name_at_end name.name (end_name b) ++ []) q in
+    let stated = both_none o.faults (right_name_at_end name.name (end_name b) ++ []) (both_none (program_named name.name name.at) unit.faults q).1 in
     let count = entered_counted false declarations b nothing_around place main_tables [] in
     let long = length-set o.tables.units 0 unit.made in
-    let in_plan : InPlan plan main_tables o.tables = record { regions = λ n after before. refl; exceptions = omega arith; objects = omega arith; entries = λ n lt. (omega (arith, lt, length-map o.tables.entries tree.plan_of_entry), planned_from o.tables.entries n lt); tasks = λ n lt. (lt, refl) } in
+    let in_plan : InPlan plan main_tables o.tables = record { regions = λ n after before. refl; exceptions = omega arith; objects = λ n lt. (lt, refl); entries = λ n lt. (omega (arith, lt, length-map o.tables.entries tree.plan_of_entry), planned_from o.tables.entries n lt); tasks = λ n lt. (lt, refl) } in
     let ready : Ready entries main_tables rest = record { even = refl; even_entries = refl; long = omega arith; each = λ k lt. let next : length main_tables.units + k ≡ suc k = omega arith in ap (entry_of entries) next } in
     let main : (c : Bool) (e : Elaborated) → IsCallable (when c (seen plan entries main_tables)) (e ∷ []) 0 = λ c e. record { declared = omega arith; entered = omega arith; formals = refl; outer = λ _. tt } in
     let inside : (full : Elaborated) → InBody (seen plan entries main_tables) [] full place = λ full. in_main (seen plan entries main_tables) full name.name main in
     let body = entered_scoped plan entries false declarations b nothing_around place main_tables [] inside refl in_plan ready stated.0 in
     let own : IsUnit plan entries unit.made 0 = (refl, body.0) in
     let each : (n : ℕ) → n < length last.units → UnitScoped plan entries (tree.unit_plan (unit_at n last)) (unit_at n last).body (entry_of entries n) = λ n lt. by plan entries o.tables unit.made n (omega (arith, lt, long)) own body.1.1 in
-    record { entries = entries; main = refl; units = units_from plan entries last.units entries (omega (arith, long, count)) each; barriers = barriers_from plan entries last.entries (body.1.3 (λ n lt. absurd (omega (arith, lt)))); objects = (entered_grows false declarations b nothing_around place main_tables).distinct tt }
+    record { entries = entries; main = refl; units = units_from plan entries last.units entries (omega (arith, long, count)) each; barriers = barriers_from plan entries last.entries (body.1.3 (λ n lt. absurd (omega (arith, lt)))); objects = (entered_grows false declarations b nothing_around place main_tables).distinct tt; owned = typed_owned (plain.unit context at name declarations b); numbers = typed_numbers (plain.unit context at name declarations b) q }
   where
     by : (plan : Plan) (entries : List Entry) (t : Tables) (x : tree.UnitBody) (n : ℕ) → n < length t.units → IsUnit plan entries x 0 → ((k : ℕ) → 1 ≤ k → k < length t.units → IsUnit plan entries (unit_at k t) k) → IsUnit plan entries (unit_at n (with_unit 0 x t)) n
     by plan entries t x zero lt own others = subst (λ z. IsUnit plan entries z 0) (sym (get_or-set_same t.units 0 x no_body lt)) own

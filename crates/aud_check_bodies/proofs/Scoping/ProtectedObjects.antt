@@ -1,12 +1,13 @@
 -- Protected objects and the bodies of their operations without faults use what is elaborated, or there.
-use Rattle.std.proofs.Common.{◌≡◌, ◌⊎◌, ◌+◌, ◌≤◌, ℕ, true, false, List, [], ◌∷◌, ◌++◌, length, slice_index_or, Option, Some, None, arith, refl, sym, ◌∙◌, ap, subst}
-use Rattle.std.proofs.lemmas.List.{length_push}
+use Rattle.std.specs.List.{AllByRecursion}
+use Rattle.std.proofs.Common.{◌≡◌, ◌⊎◌, ◌+◌, ◌≤◌, ℕ, suc, true, false, List, [], ◌∷◌, ◌++◌, length, slice_index_or, Option, Some, None, arith, refl, sym, ◌∙◌, ap, subst}
+use Rattle.std.proofs.lemmas.List.{length_push, get_or_push}
 use Rattle.aud_text.specs.declared.place.Pos.{Pos}
 use Rattle.aud_syntax.specs.declared.tree.Ident.{Ident}
 use Rattle.aud_syntax.specs.Plain as plain
 use Rattle.aud_typed.specs.Tree as tree
 use Rattle.aud_typed.specs.Tree.{Plan}
-use Rattle.aud_typed.specs.Why.Scoped.{Scope, none_yet, AreAround, table, Elaborated, Entry, entry_of, AreDistinct, all_formals, BodyScoped, UnitScoped}
+use Rattle.aud_typed.specs.Why.Scoped.{Scope, none_yet, AreAround, table, Elaborated, Entry, entry_of, entry_unit, no_object, EntriesLevel, AreDistinct, all_formals, BodyScoped, UnitScoped}
 use Rattle.aud_names.specs.declared.awaited.AwaitedObject.{AwaitedObject}
 use Rattle.aud_names.specs.declared.awaited.AwaitedPart.{AwaitedPart}
 use Rattle.aud_names.specs.declared.names.Access.TheVariants.{Outside, Inside, InFunction}
@@ -25,6 +26,7 @@ use Rattle.aud_check_bodies.specs.Objects.{ObjectDeclared}
 use Rattle.aud_check_bodies.specs.Operations as operations
 use Rattle.aud_check_bodies.specs.Operations.{Head, of_entry, of_function, BodyPlaces}
 use Rattle.aud_check_bodies.specs.Declarations as d
+use Rattle.aud_check_bodies.specs.Formals.{body_formals}
 use Rattle.aud_check_bodies.specs.Statements as s
 use Rattle.aud_check_bodies.specs.Statements.{Around}
 use Rattle.aud_check_bodies.proofs.Scoping.Names.{Known, when, PartsThere, RegionsScoped, Fits, regions_more, regions_when, open_further, around_open}
@@ -39,7 +41,7 @@ use Rattle.aud_check_bodies.proofs.Scoping.Units.{no_fault, found_object, no_par
 use Rattle.aud_check_bodies.proofs.Scoping.Alike.{own_frame, its_frame, parts_more}
 use Rattle.aud_check_bodies.proofs.Scoping.Operations.{PartsAre, parts_grown, parts_there, part_in_is}
 use Rattle.aud_check_bodies.proofs.Scoping.Objects as of_objects
-use Rattle.aud_check_bodies.proofs.Scoping.Objects.{Declaring, none_declared, operations_declared, items_declared, body_frames, both_true, fine_if, conform_length, awaited_is, common, each_same, barrier_barred}
+use Rattle.aud_check_bodies.proofs.Scoping.Objects.{Declaring, all_lengths, none_declared, operations_declared, items_declared, body_frames, both_true, fine_if, conform_length, awaited_is, common, each_same, barrier_barred}
 use Rattle.aud_check_bodies.proofs.Scoping.Constructs.{BodyFine, DeclarationsFine, DeclarationFine, OperationFine, BodiesFine}
 use Rattle.aud_check_bodies.proofs.Scoping.Bodies.{counted_frame, entering_fine}
 
@@ -79,7 +81,14 @@ module _ (plan : Plan) (entries : List Entry) where
             both_parts (when c (seen plan entries u)) (outer ++ e ∷ []) before.parts qs (own.parts c e more enough) (parts_there plan entries base u (scope ++ elaborated x.own ∷ []) (outer ++ e ∷ []) c number qs reach h.its are);
       } in
       let statement : tree.Statement = tree.declare_object at number x.values in
-      let elaborates : Elaborates (seen plan entries u) (outer ++ elaborated before ∷ []) (statement ∷ []) (outer ++ elaborated new ∷ []) = ((omega (arith, p.objects, length_push x.tables.objects (record { name = i.name; entries = x.entries }), h.grows.objects), h.values), one_elaborated (seen plan entries u) outer full i.name (Protected number) before) in
+      let object : tree.ObjectPlan = record { name = i.name; entries = x.entries } in
+      let long = length_push x.tables.objects object in
+      let planned = p.objects number (omega (arith, long, h.grows.objects)) in
+      let same : length x.tables.objects ≡ number = h.count in
+      let own_plan : slice_index_or plan.objects number no_object ≡ object = planned.1 ∙ get_or_push x.tables.objects object no_object number same in
+      let deep : length (scope ++ elaborated x.own ∷ []) ≡ suc (length (outer ++ elaborated before ∷ [])) = omega (arith, length_push scope (elaborated x.own), length_push outer full, length_push outer (elaborated before)) in
+      let levels : EntriesLevel plan entries number (outer ++ elaborated before ∷ []) = subst (λ (z : tree.ObjectPlan). AllByRecursion (λ k. length (entry_of entries (entry_unit plan k)).outer ≡ suc (length (outer ++ elaborated before ∷ []))) z.entries) (sym own_plan) (all_lengths plan entries (scope ++ elaborated x.own ∷ []) x.entries (suc (length (outer ++ elaborated before ∷ []))) deep h.levels) in
+      let elaborates : Elaborates (seen plan entries u) (outer ++ elaborated before ∷ []) (statement ∷ []) (outer ++ elaborated new ∷ []) = ((planned.0, h.values, levels), one_elaborated (seen plan entries u) outer full i.name (Protected number) before) in
       let frame : elaborated x.own ≡ own_frame number qs = ap elaborated h.own ∙ its_frame number level Outside qs (named_objects.object_frame n) refl refl refl in
       let stays = part_with_object plan entries base scope (waits_in before) o qs t u grown refl (omega (arith, h.grows.objects, length_push x.tables.objects (record { name = i.name; entries = x.entries }))) h.its
       (subst (λ e. PartsAre plan entries base u (scope ++ e ∷ []) number qs) frame are) h.waits h.stays part in (
@@ -132,13 +141,13 @@ module _ (plan : Plan) (entries : List Entry) where
       here = operations.operation_place head o
 
       shape : operations.Shape
-      shape = operations.shape_of head i fs here
+      shape = operations.shape_of head fs here
 
       inner : Place
       inner = names.place_in shape.region here.regions
 
       around : Around
-      around = s.operation_around head i fs o.object here
+      around = s.operation_around head fs o.object here
 
       entry : Option PartKind → Tables
       entry found = operations.operation_tables head found shape.region here t
@@ -159,16 +168,16 @@ module _ (plan : Plan) (entries : List Entry) where
           → EachIs plan entries base (λ n. Waits_in w n ⊎ IsUnitOf n (operations.still_awaited found awaited)) (last found) × Stay base t (last found) × (Barred plan entries t → Barred plan entries (last found))
       by None e p r q =
           let heads = both_none (operations.operation_faults head None i fs here t) ((checked inner (entry None)).faults ++ []) q in
-          let others = both_none (operations.shape_faults head i fs here) (rules.no_matching_body i.at ++ operations.barrier_faults head shape.region here) heads.0 in
+          let others = both_none (operations.shape_faults head fs here) (rules.no_matching_body i.at ++ operations.barrier_faults head shape.region here) heads.0 in
           absurd (no_fault _ _ others.1)
       by (Some k) e p r q =
           let kept : Tables = entry (Some k) in
           let made = checked inner kept in
           let own_body = s.entered_body false ds b around inner kept in
           let heads = both_none (operations.operation_faults head (Some k) i fs here t) (made.faults ++ []) q in
-          let shaped = both_none (operations.shape_faults head i fs here) (operations.operation_matched (Some k) i.at shape.profile shape.returned t ++ operations.barrier_faults head shape.region here) heads.0 in
+          let shaped = both_none (operations.shape_faults head fs here) (operations.operation_matched (Some k) i.at shape.profile shape.returned t ++ operations.barrier_faults head shape.region here) heads.0 in
           let matched = (both_none (operations.operation_matched (Some k) i.at shape.profile shape.returned t) (operations.barrier_faults head shape.region here) shaped.1).0 in
-          let formals_fine = (both_none (operations.head_formals head i fs here).faults (operations.result_faults head i shape.region here.regions) shaped.0).0 in
+          let formals_fine = (both_none (body_formals fs here).faults (operations.result_faults head shape.region here.regions) shaped.0).0 in
           let stated = both_none own_body.faults (rules.right_name_at_end i.name (s.end_name b) ++ []) (both_none made.faults [] heads.1).0 in
           let found = awaited_is plan entries base t frames head awaited (named_objects.part_in i.name o.object o.parts) k (part_in_is plan entries base t frames o.object i.name o.parts are) e in
           let its = common plan entries base t frames head k found.1 found.0 in
@@ -178,13 +187,13 @@ module _ (plan : Plan) (entries : List Entry) where
           let same_units : kept.units ≡ t.units = barrier_kept_units (Some k) (operations.barrier_of head shape.region here) t in
           let fits_later = fits_grown plan entries t kept frames here g0 fits in
           let level : (names.innermost here).level + 1 ≡ length frames = fits.level in
-          let formed = λ (all : Elaborated). formals_scoped (seen plan entries kept) frames all (operations.hidden_own head i) fs (names.body_frame here) here.regions formals_fine (empty_scoped (seen plan entries kept) frames all _ level) in
+          let formed = λ (all : Elaborated). formals_scoped (seen plan entries kept) frames all fs (names.body_frame here) here.regions formals_fine (empty_scoped (seen plan entries kept) frames all _ level) in
           let begun : elaborated shape.region ≡ all_formals (length shape.profile) = counted_frame shape.region.names shape.region.cells (length shape.profile) (formed none_yet).1 (formed none_yet).2 in
           let within : (all : Elaborated) → InBody (seen plan entries kept) frames all inner = λ all. record {
             innermost = (formed all).0;
             others = λ c e1 more. regions_more (when c (seen plan entries kept)) frames e1 here.regions (regions_when (seen plan entries kept) frames refl c here.regions fits_later.regions);
           } in
-          let nothing_waits = formals_awaited (operations.hidden_own head i) fs (names.body_frame here) here.regions in
+          let nothing_waits = formals_awaited fs (names.body_frame here) here.regions in
           let p1 = second_in_plan plan t kept (last (Some k)) g0 p in
           let no_more : length kept.units ≡ length t.units + 0 = omega (arith, ap length same_units) in
           let ready = second_ready entries t kept [] (in_entered ds b around inner kept frames) g0 no_more r in

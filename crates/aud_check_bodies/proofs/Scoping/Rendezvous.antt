@@ -1,20 +1,25 @@
 -- Accept statements and selects without faults use what is elaborated, or there.
-use Rattle.std.specs.Prelude.{if◌then◌else◌}
+use Rattle.std.specs.Prelude.{not, ◌&&◌, if◌then◌else◌}
 use Rattle.std.proofs.Common.{◌≡◌, ℕ, Bool, true, false, List, [], ◌∷◌, ◌++◌, length, Option, Some, None, arith, refl, sym, ◌∙◌, ap, subst}
 use Rattle.aud_text.specs.declared.place.Pos.{Pos}
 use Rattle.aud_syntax.specs.declared.tree.Ident.{Ident}
 use Rattle.aud_syntax.specs.Plain as plain
 use Rattle.aud_typed.specs.Tree as tree
+use Rattle.aud_typed.specs.declared.program.Variable.{Variable}
 use Rattle.aud_typed.specs.Tree.{Plan}
-use Rattle.aud_typed.specs.Why.Scoped.{Scope, none_yet, all_of_table, table, Entry, all_formals, BodyScoped}
+use Rattle.aud_typed.specs.Why.Scoped.{Scope, none_yet, all_of_table, table, Entry, all_formals, entry_unit, IsTaskEntry, BodyScoped}
 use Rattle.aud_names.specs.declared.names.NamedParameter.{NamedParameter}
 use Rattle.aud_names.specs.declared.names.Meaning.{Meaning}
 use Rattle.aud_names.specs.declared.names.Meaning.TheVariants as meaning
+use Rattle.aud_fault.specs.declared.fault.Fault.{Fault}
+use Rattle.aud_names.specs.declared.names.Owner.{Owner}
+use Rattle.aud_names.specs.declared.names.Owner.TheVariants as owner
+use Rattle.aud_names.specs.declared.names.Owner.TheVariants.{Single, Element}
 use Rattle.aud_names.specs.Names as names
 use Rattle.aud_names.specs.Names.{Region, Place}
 use Rattle.aud_names.specs.Resolution.{is_function}
 use Rattle.aud_names.specs.Rules as rules
-use Rattle.aud_check_bodies.specs.Tables.{Tables, with_region}
+use Rattle.aud_check_bodies.specs.Tables.{Tables, with_region, entry_profile_of}
 use Rattle.aud_check_bodies.specs.Accepts as accepts
 use Rattle.aud_check_bodies.specs.Calls as calls
 use Rattle.aud_check_bodies.specs.Delays as delays
@@ -23,7 +28,7 @@ use Rattle.aud_typing.specs.Conditions as conditions
 use Rattle.aud_check_bodies.specs.Regions as regions
 use Rattle.aud_check_bodies.specs.Statements as s
 use Rattle.aud_check_bodies.specs.Statements.{Around}
-use Rattle.aud_check_bodies.proofs.Scoping.Names.{when, IsEntry, VisibleScoped, regions_see, regions_more, regions_when}
+use Rattle.aud_check_bodies.proofs.Scoping.Names.{Known, when, OwnerScoped, VisibleScoped, regions_see, regions_more, regions_when}
 use Rattle.aud_check_bodies.proofs.Scoping.Expressions.{maybe_condition_scoped}
 use Rattle.aud_check_bodies.proofs.Scoping.Declarations.{elaborated, all_elaborated, both_none, InBody, formals_scoped, accept_scoped, in_frame}
 use Rattle.aud_check_bodies.proofs.Scoping.Tables.{further, region_grows}
@@ -47,10 +52,15 @@ module _ (plan : Plan) (entries : List Entry) where
   no_value true at e = cc
   no_value false at e = cc
 
-  -- an accept without faults is of an entry
-  accepted_there : (m : Option Meaning) (at : Pos) (given : List NamedParameter) (within : List ℕ) (n : Place) (t : Tables) (scope : Scope) → accepts.accepted_faults m at given within n t ≡ [] → VisibleScoped (seen plan entries t) scope m → IsEntry (seen plan entries t) (accepts.number_of (accepts.entry_meant m))
+  -- an accept without faults is of a task's entry
+  accepted_owner : (x : Owner) (number : ℕ) (own : Option Variable) (once : Bool) (at : Pos) (more : List Fault) (known : Known) (scope : Scope) → rules.accept_or_count_in_place (names.is_cell_of x own && once) at ++ more ≡ [] → OwnerScoped known number x scope → entry_unit known.plan number ≡ 0
+  accepted_owner (Single v) number own once at more known scope q h = h.1
+  accepted_owner (Element a) number own once at more known scope q h = h.1
+  accepted_owner (owner.Object x) number own once at more known scope q h = cc
+
+  accepted_there : (m : Option Meaning) (at : Pos) (given : List NamedParameter) (within : List ℕ) (n : Place) (t : Tables) (scope : Scope) → accepts.accepted_faults m at given within n t ≡ [] → VisibleScoped (seen plan entries t) scope m → IsTaskEntry plan (accepts.number_of (accepts.entry_meant m))
   accepted_there None at given within n t scope q h = cc
-  accepted_there (Some (meaning.Entry x)) at given within n t scope q h = h.0
+  accepted_there (Some (meaning.Entry x)) at given within n t scope q h = (h.0, accepted_owner x.owner x.number (names.innermost n).own (not (accepts.is_accepted x.number within)) at (rules.formals_conform (rules.conform (entry_profile_of x.number t) given) at) (seen plan entries t) scope q h.1)
   accepted_there (Some m) at given within n t scope q h = let no = no_value (is_function m) at q in cc
 
   pub accept_fine : (at : Pos) (i : Ident) (fs : List plain.Formal) (x : plain.Doing) (around : Around) (n : Place) (t : Tables) (scope : Scope) → ((r : Region) (within : Around) → DoingFine plan entries x i r within n t scope) → AcceptFine plan entries (plain.accept at i fs x) around n t scope
@@ -64,7 +74,7 @@ module _ (plan : Plan) (entries : List Entry) where
       let accepted = accepts.accepted_faults (names.visible i.name n) i.at formals.profile around.accepting n t in
       let parts = both_none (formals.faults ++ accepted) (o.faults ++ []) q in
       let heads = both_none formals.faults accepted parts.0 in
-      let formed = formals_scoped known scope none_yet None fs (names.accept_frame n) n.regions heads.0 (accept_scoped known scope none_yet (names.next_frame n) (in_frame known scope none_yet n refl fits).innermost) in
+      let formed = formals_scoped known scope none_yet fs (names.accept_frame n) n.regions heads.0 (accept_scoped known scope none_yet (names.next_frame n) (in_frame known scope none_yet n refl fits).innermost) in
       let begun : elaborated formals.region ≡ all_formals (length formals.profile) = counted_frame formals.region.names formals.region.cells (length formals.profile) formed.1 formed.2 in
       let doing = f formals.region within (length formals.profile) formed.0 begun fits p r (both_none o.faults [] parts.1).0 in
       ((accepted_there (names.visible i.name n) i.at formals.profile around.accepting n t scope heads.1 (sees.visible i.name), doing.0), doing.1)

@@ -25,11 +25,11 @@ use Rattle.aud_check_bodies.proofs.Scoping.Single.{IsStatement}
 
 module _ (known : Known) (scope : Scope) where
   abbrev TargetScoped : ℕ → tree.Callee → Type 0
-  TargetScoped n c = CalleeScoped c scope × BodyAround known.plan known.entries c n scope
+  TargetScoped n c = CalleeScoped known.plan c scope × BodyAround known.plan known.entries c n scope
 
-  target_scoped : known.complete ≡ true → (x : Owner) (n : ℕ) (t : Typed) → OwnerScoped known n x scope → TypedScoped scope t → IfSome (requeues.target_callee x t) (TargetScoped n)
-  target_scoped whole (Single v) n t h i = (h, tt)
-  target_scoped whole (Element a) n (number k) h i = ((h, i), tt)
+  target_scoped : known.complete ≡ true → (x : Owner) (n : ℕ) (t : Typed) → OwnerScoped known n x scope → TypedScoped known.plan scope t → IfSome (requeues.target_callee x t) (TargetScoped n)
+  target_scoped whole (Single v) n t h i = h
+  target_scoped whole (Element a) n (number k) h i = ((h.0, i), h.1)
   target_scoped whole (Element a) n _ h i = tt
   target_scoped whole (owner.Object x) n t h i = (h.0, (h.1.entered, h.1.outer whole))
 
@@ -44,7 +44,7 @@ module _ (plan : Plan) (entries : List Entry) where
       sees : Sees (seen plan entries t) scope n
       sees = regions_see (seen plan entries t) scope n fits.regions
 
-      index : (o : Owner) → TypedScoped scope (calls.index_checked o x n).typed
+      index : (o : Owner) → TypedScoped plan scope (calls.index_checked o x n).typed
       index (Single v) = tt
       index (Element a) = prefix_scoped (seen plan entries t) scope n sees x
       index (owner.Object z) = tt

@@ -11,7 +11,7 @@ use Rattle.aud_typed.specs.declared.program.Subtype.{Subtype}
 use Rattle.aud_typed.specs.declared.program.Exception as exception
 use Rattle.aud_typed.specs.Tree as tree
 use Rattle.aud_typed.specs.Tree.{Plan}
-use Rattle.aud_typed.specs.Why.Scoped.{Scope, IsElaborated, AreElaborated, IntegerScoped, ReferenceScoped, BooleanScoped, CalleeScoped, IntoScoped, BodyAround, DelayScoped, FormScoped, scope_after, AllThere, ArgumentsScoped, StatementScoped, PartScoped, HandlersScoped, DoingScoped, AlternativesScoped}
+use Rattle.aud_typed.specs.Why.Scoped.{Scope, IsElaborated, AreElaborated, IntegerScoped, ReferenceScoped, BooleanScoped, CalleeScoped, IntoScoped, BodyAround, IsTaskEntry, DelayScoped, FormScoped, scope_after, AllThere, ArgumentsScoped, StatementScoped, PartScoped, HandlersScoped, DoingScoped, AlternativesScoped}
 use Rattle.aud_names.specs.declared.names.Meaning.{Meaning}
 use Rattle.aud_names.specs.declared.names.Meaning.TheVariants.{Object, Exception, Builtin}
 use Rattle.aud_names.specs.declared.names.Entry as named_entry
@@ -56,18 +56,18 @@ abbrev pub IsStatement : Known → Scope → tree.Statement → Type 0
 IsStatement known scope x = StatementScoped known.plan known.entries x scope × (scope_after x scope ≡ scope)
 
 abbrev pub ArmScoped : Known → Scope → TypedArm → Type 0
-ArmScoped known scope a = BooleanScoped a.condition scope × StatementScoped known.plan known.entries a.statements scope
+ArmScoped known scope a = BooleanScoped known.plan a.condition scope × StatementScoped known.plan known.entries a.statements scope
 
 abbrev pub HandlerScoped : Known → Scope → TypedHandler → Type 0
 HandlerScoped known scope h = AllThere known.plan h.choices × StatementScoped known.plan known.entries h.statements scope
 
 abbrev pub AcceptScoped : Known → Scope → accepts.TypedAccept → Type 0
-AcceptScoped known scope a = IsEntry known a.entry × DoingScoped known.plan known.entries a.doing scope
+AcceptScoped known scope a = IsTaskEntry known.plan a.entry × DoingScoped known.plan known.entries a.doing scope
 
 abbrev pub AlternativeScoped : Known → Scope → selects.TypedAlternative → Type 0
-AlternativeScoped known scope (selects.accepts guard a behind) = BooleanScoped guard scope × AcceptScoped known scope a × PartScoped known.plan known.entries behind scope
-AlternativeScoped known scope (selects.delays guard e behind) = BooleanScoped guard scope × DelayScoped e scope × PartScoped known.plan known.entries behind scope
-AlternativeScoped known scope (selects.terminates guard) = BooleanScoped guard scope
+AlternativeScoped known scope (selects.accepts guard a behind) = BooleanScoped known.plan guard scope × AcceptScoped known scope a × PartScoped known.plan known.entries behind scope
+AlternativeScoped known scope (selects.delays guard e behind) = BooleanScoped known.plan guard scope × DelayScoped known.plan e scope × PartScoped known.plan known.entries behind scope
+AlternativeScoped known scope (selects.terminates guard) = BooleanScoped known.plan guard scope
 
 module _ (known : Known) (scope : Scope) where
   -- statements one after the other
@@ -90,19 +90,19 @@ module _ (known : Known) (scope : Scope) where
 
   -- assignments
 
-  assigned_to_scoped : (v : Variable) (t : Option Subtype) (at : Pos) (x : Typed) → IsElaborated v scope → TypedScoped scope x → IsStatement known scope (assignments.assigned_to v t at x)
+  assigned_to_scoped : (v : Variable) (t : Option Subtype) (at : Pos) (x : Typed) → IsElaborated v scope → TypedScoped known.plan scope x → IsStatement known scope (assignments.assigned_to v t at x)
   assigned_to_scoped v None at x h i = (tt, refl)
   assigned_to_scoped v (Some t) at x h i = ((h, value_scoped known scope t x i), refl)
 
-  assigned_at_scoped : (a : ArrayAt) (index : tree.IntegerExpression) (t : Option Subtype) (at : Pos) (x : Typed) → AreElaborated a scope × IntegerScoped index scope → TypedScoped scope x → IsStatement known scope (assignments.assigned_at a index t at x)
+  assigned_at_scoped : (a : ArrayAt) (index : tree.IntegerExpression) (t : Option Subtype) (at : Pos) (x : Typed) → AreElaborated a scope × IntegerScoped known.plan index scope → TypedScoped known.plan scope x → IsStatement known scope (assignments.assigned_at a index t at x)
   assigned_at_scoped a index None at x h i = (tt, refl)
   assigned_at_scoped a index (Some t) at x h i = ((h, value_scoped known scope t x i), refl)
 
-  meaning_assigned_scoped : (m : Meaning) (at : Pos) (x : Typed) → MeaningScoped known scope m → TypedScoped scope x → IsStatement known scope (assignments.meaning_assigned m at x)
+  meaning_assigned_scoped : (m : Meaning) (at : Pos) (x : Typed) → MeaningScoped known scope m → TypedScoped known.plan scope x → IsStatement known scope (assignments.meaning_assigned m at x)
   meaning_assigned_scoped (Object o) at x h i = assigned_to_scoped o.variable o.subtype at x h i
   meaning_assigned_scoped _ at x h i = (tt, refl)
 
-  pub assigned_scoped : (y : Entity) (at : Pos) (x : Typed) → EntityScoped known scope y → TypedScoped scope x → IsStatement known scope (assignments.assigned y at x)
+  pub assigned_scoped : (y : Entity) (at : Pos) (x : Typed) → EntityScoped known scope y → TypedScoped known.plan scope x → IsStatement known scope (assignments.assigned y at x)
   assigned_scoped no_entity at x h i = (tt, refl)
   assigned_scoped (entity m) at x h i = meaning_assigned_scoped m at x h i
   assigned_scoped (element_of a index t) at x h i = assigned_at_scoped a index t at x h i
@@ -110,36 +110,36 @@ module _ (known : Known) (scope : Scope) where
 
   -- calls
 
-  put_scoped : (b : names_in_memory.Builtin) (at : Pos) (t : Typed) → TypedScoped scope t → IsStatement known scope (calls.put_out b at t)
+  put_scoped : (b : names_in_memory.Builtin) (at : Pos) (t : Typed) → TypedScoped known.plan scope t → IsStatement known scope (calls.put_out b at t)
   put_scoped Put at (string x) h = (h, refl)
   put_scoped PutLine at (string x) h = ((h, tt), refl)
   put_scoped NewLine at t h = (tt, refl)
   put_scoped _ at _ h = (tt, refl)
 
-  pub called_scoped : (m : Option Meaning) (at : Pos) (t : Typed) → TypedScoped scope t → IsStatement known scope (calls.called m at t)
+  pub called_scoped : (m : Option Meaning) (at : Pos) (t : Typed) → TypedScoped known.plan scope t → IsStatement known scope (calls.called m at t)
   called_scoped (Some (Builtin b)) at t h = put_scoped b at t h
   called_scoped _ at t h = (tt, refl)
 
   -- of a procedure of the program, whose arguments have no faults
-  pub procedure_called_scoped : known.complete ≡ true → (unit : ℕ) (at : Pos) (xs : Option (List tree.Argument)) → IsCallable known scope unit → IfSome xs (λ ys. (length ys ≡ length (slice_index_or known.profiles unit [])) × ArgumentsScoped ys scope) → IsStatement known scope (calls.procedure_called unit at xs)
+  pub procedure_called_scoped : known.complete ≡ true → (unit : ℕ) (at : Pos) (xs : Option (List tree.Argument)) → IsCallable known scope unit → IfSome xs (λ ys. (length ys ≡ length (slice_index_or known.profiles unit [])) × ArgumentsScoped known.plan ys scope) → IsStatement known scope (calls.procedure_called unit at xs)
   procedure_called_scoped whole unit at None h i = (tt, refl)
   procedure_called_scoped whole unit at (Some xs) h i = ((h.entered, i.0 ∙ h.formals, h.outer whole, i.1, tt), refl)
 
   -- of an operation of an object
 
-  by_access_scoped : known.complete ≡ true → (inside : Bool) (x : Instance) (at : Pos) (c : tree.Calling) → IsElaborated x.variable scope → IsOperation known scope inside c.unit → length c.arguments ≡ length (slice_index_or known.profiles c.unit []) → ArgumentsScoped c.arguments scope → IntoScoped c.into scope
+  by_access_scoped : known.complete ≡ true → (inside : Bool) (x : Instance) (at : Pos) (c : tree.Calling) → IsElaborated x.variable scope → IsOperation known scope inside c.unit → length c.arguments ≡ length (slice_index_or known.profiles c.unit []) → ArgumentsScoped known.plan c.arguments scope → IntoScoped known.plan c.into scope
       → IsStatement known scope (calls.by_access inside x at c)
   by_access_scoped whole true x at c v h l i j = ((h.entered, l ∙ h.formals, h.outer whole, i, j), refl)
   by_access_scoped whole false x at c v h l i j = ((v, (h.entered, l ∙ h.formals, h.outer whole, i, j)), refl)
 
-  pub operation_called_scoped : known.complete ≡ true → (o : operation.Operation) (into : Option tree.Reference) (at : Pos) (xs : Option (List tree.Argument)) → MeaningScoped known scope (meaning.Operation o) → IntoScoped into scope
-      → IfSome xs (λ ys. (length ys ≡ length (slice_index_or known.profiles o.unit [])) × ArgumentsScoped ys scope) → IsStatement known scope (calls.operation_called o into at xs)
+  pub operation_called_scoped : known.complete ≡ true → (o : operation.Operation) (into : Option tree.Reference) (at : Pos) (xs : Option (List tree.Argument)) → MeaningScoped known scope (meaning.Operation o) → IntoScoped known.plan into scope
+      → IfSome xs (λ ys. (length ys ≡ length (slice_index_or known.profiles o.unit [])) × ArgumentsScoped known.plan ys scope) → IsStatement known scope (calls.operation_called o into at xs)
   operation_called_scoped whole o into at None h j i = (tt, refl)
   operation_called_scoped whole o into at (Some xs) h j i = by_access_scoped whole (names.is_inside o.instance.access) o.instance at (record { unit = o.unit; arguments = xs; into = into }) h.0 h.1 i.0 i.1 j
 
   -- the value of a function is assigned
-  pub returned_scoped : known.complete ≡ true → (r : Option tree.Reference) (o : operation.Operation) (at : Pos) (xs : Option (List tree.Argument)) → MeaningScoped known scope (meaning.Operation o) → IfSome r (λ x. ReferenceScoped x scope)
-      → IfSome xs (λ ys. (length ys ≡ length (slice_index_or known.profiles o.unit [])) × ArgumentsScoped ys scope) → IsStatement known scope (values.returned_into r o at xs)
+  pub returned_scoped : known.complete ≡ true → (r : Option tree.Reference) (o : operation.Operation) (at : Pos) (xs : Option (List tree.Argument)) → MeaningScoped known scope (meaning.Operation o) → IfSome r (λ x. ReferenceScoped known.plan x scope)
+      → IfSome xs (λ ys. (length ys ≡ length (slice_index_or known.profiles o.unit [])) × ArgumentsScoped known.plan ys scope) → IsStatement known scope (values.returned_into r o at xs)
   returned_scoped whole None o at xs h j i = (tt, refl)
   returned_scoped whole (Some r) o at xs h j i = operation_called_scoped whole o (Some r) at xs h j i
 
@@ -147,17 +147,17 @@ module _ (known : Known) (scope : Scope) where
 
   abbrev pub WhoseScoped : ℕ → calls.Whose → Type 0
   WhoseScoped k calls.own_object = Unit {0}
-  WhoseScoped k (calls.another c) = CalleeScoped c scope × BodyAround known.plan known.entries c k scope
+  WhoseScoped k (calls.another c) = CalleeScoped known.plan c scope × BodyAround known.plan known.entries c k scope
 
   abbrev pub CalledScoped : calls.EntryCalled → Type 0
-  CalledScoped c = IsEntry known c.entry × WhoseScoped c.entry c.whose × ArgumentsScoped c.arguments scope
+  CalledScoped c = IsEntry known c.entry × WhoseScoped c.entry c.whose × ArgumentsScoped known.plan c.arguments scope
 
-  entry_call_to_scoped : (x : calls.Whose) (at : Pos) (k : ℕ) (xs : List tree.Argument) (form : tree.CallForm) (p q : tree.Part) → FormScoped form scope → PartScoped known.plan known.entries p scope → PartScoped known.plan known.entries q scope → IsEntry known k → WhoseScoped k x → ArgumentsScoped xs scope
+  entry_call_to_scoped : (x : calls.Whose) (at : Pos) (k : ℕ) (xs : List tree.Argument) (form : tree.CallForm) (p q : tree.Part) → FormScoped known.plan form scope → PartScoped known.plan known.entries p scope → PartScoped known.plan known.entries q scope → IsEntry known k → WhoseScoped k x → ArgumentsScoped known.plan xs scope
       → IsStatement known scope (calls.entry_call_to x at k xs form p q)
   entry_call_to_scoped calls.own_object at k xs form p q f h i n w c = ((c, f), refl)
   entry_call_to_scoped (calls.another y) at k xs form p q f h i n w c = (((n, w.0, c, f, w.1), h, i), refl)
 
-  pub entry_call_scoped : (at : Pos) (form : tree.CallForm) (p q : tree.Part) (c : Option calls.EntryCalled) → FormScoped form scope → PartScoped known.plan known.entries p scope → PartScoped known.plan known.entries q scope → IfSome c CalledScoped → IsStatement known scope (calls.entry_call_of at form p q c)
+  pub entry_call_scoped : (at : Pos) (form : tree.CallForm) (p q : tree.Part) (c : Option calls.EntryCalled) → FormScoped known.plan form scope → PartScoped known.plan known.entries p scope → PartScoped known.plan known.entries q scope → IfSome c CalledScoped → IsStatement known scope (calls.entry_call_of at form p q c)
   entry_call_scoped at form p q None f h i c = (tt, refl)
   entry_call_scoped at form p q (Some x) f h i c = entry_call_to_scoped x.whose at x.entry x.arguments form p q f h i c.0 c.1 c.2
 
@@ -165,13 +165,13 @@ module _ (known : Known) (scope : Scope) where
   object_scoped whole true x n v h = tt
   object_scoped whole false x n v h = (v, (h.entered, h.outer whole))
 
-  owner_scoped : known.complete ≡ true → (x : Owner) (n : ℕ) (t : Typed) → OwnerScoped known n x scope → TypedScoped scope t → IfSome (calls.called_owner x t) (WhoseScoped n)
-  owner_scoped whole (Single v) n t h i = (h, tt)
-  owner_scoped whole (Element a) n (number k) h i = ((h, i), tt)
+  owner_scoped : known.complete ≡ true → (x : Owner) (n : ℕ) (t : Typed) → OwnerScoped known n x scope → TypedScoped known.plan scope t → IfSome (calls.called_owner x t) (WhoseScoped n)
+  owner_scoped whole (Single v) n t h i = h
+  owner_scoped whole (Element a) n (number k) h i = ((h.0, i), h.1)
   owner_scoped whole (Element a) n _ h i = tt
   owner_scoped whole (owner.Object x) n t h i = object_scoped whole (names.is_inside x.access) x n h.0 h.1
 
-  with_called : (n : ℕ) (t : Option calls.Whose) (xs : Option (List tree.Argument)) (k : ℕ) → IsEntry known n → IfSome t (WhoseScoped n) → IfSome xs (λ ys. (length ys ≡ k) × ArgumentsScoped ys scope) → IfSome (calls.called_with n t xs) CalledScoped
+  with_called : (n : ℕ) (t : Option calls.Whose) (xs : Option (List tree.Argument)) (k : ℕ) → IsEntry known n → IfSome t (WhoseScoped n) → IfSome xs (λ ys. (length ys ≡ k) × ArgumentsScoped known.plan ys scope) → IfSome (calls.called_with n t xs) CalledScoped
   with_called n None xs k e h i = tt
   with_called n (Some t) None k e h i = tt
   with_called n (Some t) (Some xs) k e h i = (e, h, i.1)
@@ -211,7 +211,7 @@ module _ (plan : Plan) (entries : List Entry) where
   entry_called_scoped x y n t scope sees h =
       with_called (seen plan entries t) scope x.number _ _ _ h.0 (owner_scoped (seen plan entries t) scope refl x.owner x.number _ h.1 (index x.owner)) (all_passed_scoped (seen plan entries t) scope n sees (entry_profile_of x.number t) (resolution.last_args y))
     where
-      index : (o : Owner) → TypedScoped scope (calls.index_checked o y n).typed
+      index : (o : Owner) → TypedScoped plan scope (calls.index_checked o y n).typed
       index (Single v) = tt
       index (Element a) = prefix_scoped (seen plan entries t) scope n sees y
       index (owner.Object z) = tt
@@ -291,11 +291,11 @@ module _ (plan : Plan) (entries : List Entry) where
   pub selected_scoped : (x : plain.Name) (n : Place) (t : Tables) (scope : Scope) → Sees (seen plan entries t) scope n → IfSome (calls.selected_call x n t) (CalledScoped (seen plan entries t) scope)
   selected_scoped x n t scope sees = selected_as_scoped (resolution.resolved x n).denoted.meaning x n t scope sees (resolved_scoped (seen plan entries t) scope n sees x)
 
-  pub delay_scoped : (x : plain.Delay) (n : Place) (t : Tables) (scope : Scope) → Sees (seen plan entries t) scope n → DelayScoped (delays.typed_delay x n) scope
+  pub delay_scoped : (x : plain.Delay) (n : Place) (t : Tables) (scope : Scope) → Sees (seen plan entries t) scope n → DelayScoped plan (delays.typed_delay x n) scope
   delay_scoped (plain.delay_real at r) n t scope sees = tt
-  delay_scoped (plain.delay_duration at x) n t scope sees = whole_scoped (seen plan entries t) scope (e.checked_expression x n).typed (expression_scoped (seen plan entries t) scope n sees x)
+  delay_scoped (plain.delay_duration at named x) n t scope sees = whole_scoped (seen plan entries t) scope (e.checked_expression x n).typed (expression_scoped (seen plan entries t) scope n sees x)
 
-  pub form_scoped : (x : plain.Otherwise) (n : Place) (t : Tables) (scope : Scope) → Sees (seen plan entries t) scope n → FormScoped (selects.form_of x n) scope
+  pub form_scoped : (x : plain.Otherwise) (n : Place) (t : Tables) (scope : Scope) → Sees (seen plan entries t) scope n → FormScoped plan (selects.form_of x n) scope
   form_scoped (plain.or_delay d ss) n t scope sees = delay_scoped d n t scope sees
   form_scoped (plain.or_else ss) n t scope sees = tt
 

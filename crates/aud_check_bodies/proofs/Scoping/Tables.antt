@@ -1,9 +1,9 @@
 -- Tables only grow: what stands there before a construct stays where it is, whatever that enters.
-use Rattle.std.proofs.Common.{◌≡◌, ◌⊎◌, inl, inr, ◌+◌, ◌-◌, ◌<◌, ◌≤◌, ℕ, zero, suc, Option, Some, None, List, [], ◌∷◌, ◌++◌, length, append_assoc, append-nil, arith, refl, sym, ◌∙◌, ap, subst}
+use Rattle.std.proofs.Common.{◌≡◌, ◌⊎◌, inl, inr, ◌+◌, ◌-◌, ◌<◌, ◌≤◌, ℕ, zero, suc, Option, Some, None, List, [], ◌∷◌, ◌++◌, length, slice_index_or, append_assoc, append-nil, arith, refl, sym, ◌∙◌, ap, subst}
 use Rattle.std.specs.Prelude.{slice_set}
 use Rattle.std.proofs.lemmas.List.{length_push, length-append, length-set, get_or-set_same, get_or-set_other, get_or_append_left, set-append_right}
 use Rattle.aud_typed.specs.Tree as tree
-use Rattle.aud_typed.specs.Why.Scoped.{AreDistinct, HaveDistinctEntries}
+use Rattle.aud_typed.specs.Why.Scoped.{AreDistinct, HaveDistinctEntries, no_object}
 use Rattle.aud_names.specs.declared.names.NamedParameter.{NamedParameter}
 use Rattle.aud_names.specs.declared.awaited.Awaited.{Awaited}
 use Rattle.aud_names.specs.Names as names
@@ -31,13 +31,14 @@ pub record Grows (t u : Tables) : Type 0 where
   pub exceptions : length t.exceptions ≤ length u.exceptions
   pub objects : length t.objects ≤ length u.objects
   pub distinct : HaveDistinctEntries t.objects → HaveDistinctEntries u.objects
+  pub stay : (n : ℕ) → n < length t.objects → slice_index_or u.objects n no_object ≡ slice_index_or t.objects n no_object
   -- each entry too; a barrier is put where its place was kept
   pub entry_profiles : u.entry_profiles ≡ t.entry_profiles ++ more_entry_profiles
   pub entries : length u.entries ≡ length t.entries + length more_entry_profiles
   pub planned : (n : ℕ) → n < length t.entries → tree.plan_of_entry (entry_at n u) ≡ tree.plan_of_entry (entry_at n t)
 
 pub same : (t : Tables) → Grows t t
-same t = record { more_regions = []; more_profiles = []; more_tasks = []; more_entry_profiles = []; regions = sym (append-nil t.regions); profiles = sym (append-nil t.profiles); tasks = sym (append-nil t.tasks); even = omega arith; exceptions = omega arith; objects = omega arith; distinct = λ z. z; entry_profiles = sym (append-nil t.entry_profiles); entries = omega arith; planned = λ n lt. refl }
+same t = record { more_regions = []; more_profiles = []; more_tasks = []; more_entry_profiles = []; regions = sym (append-nil t.regions); profiles = sym (append-nil t.profiles); tasks = sym (append-nil t.tasks); even = omega arith; exceptions = omega arith; objects = omega arith; distinct = λ z. z; stay = λ n lt. refl; entry_profiles = sym (append-nil t.entry_profiles); entries = omega arith; planned = λ n lt. refl }
 
 pub further : {t u v : Tables} → Grows t u → Grows u v → Grows t v
 further {t} {u} {v} g h = record {
@@ -52,13 +53,14 @@ further {t} {u} {v} g h = record {
   exceptions = omega (arith, g.exceptions, h.exceptions);
   objects = omega (arith, g.objects, h.objects);
   distinct = λ z. h.distinct (g.distinct z);
+  stay = λ n lt. h.stay n (omega (arith, lt, g.objects)) ∙ g.stay n lt;
   entry_profiles = h.entry_profiles ∙ ap (λ z. z ++ h.more_entry_profiles) g.entry_profiles ∙ append_assoc t.entry_profiles g.more_entry_profiles h.more_entry_profiles;
   entries = omega (arith, g.entries, h.entries, length-append g.more_entry_profiles h.more_entry_profiles);
   planned = λ n lt. h.planned n (omega (arith, lt, g.entries)) ∙ g.planned n lt;
 }
 
 pub region_grows : (shown : List tree.Named) (t : Tables) → Grows t (with_region shown t)
-region_grows shown t = record { more_regions = shown ∷ []; more_profiles = []; more_tasks = []; more_entry_profiles = []; regions = refl; profiles = sym (append-nil t.profiles); tasks = sym (append-nil t.tasks); even = omega arith; exceptions = omega arith; objects = omega arith; distinct = λ z. z; entry_profiles = sym (append-nil t.entry_profiles); entries = omega arith; planned = λ n lt. refl }
+region_grows shown t = record { more_regions = shown ∷ []; more_profiles = []; more_tasks = []; more_entry_profiles = []; regions = refl; profiles = sym (append-nil t.profiles); tasks = sym (append-nil t.tasks); even = omega arith; exceptions = omega arith; objects = omega arith; distinct = λ z. z; stay = λ n lt. refl; entry_profiles = sym (append-nil t.entry_profiles); entries = omega arith; planned = λ n lt. refl }
 
 -- a place that was kept is behind what stood there
 set_behind : {X : Type 0} (xs : List X) (y : X) (ys zs : List X) (z : X) → zs ≡ (xs ++ y ∷ []) ++ ys → slice_set zs (length xs) z ≡ xs ++ slice_set (y ∷ ys) (length xs - length xs) z
@@ -77,6 +79,7 @@ named_grows shown t u g = record {
   exceptions = g.exceptions;
   objects = g.objects;
   distinct = g.distinct;
+  stay = g.stay;
   entry_profiles = g.entry_profiles;
   entries = g.entries;
   planned = g.planned;
@@ -96,16 +99,17 @@ put_grows number unit t u g = record {
   exceptions = g.exceptions;
   objects = g.objects;
   distinct = g.distinct;
+  stay = g.stay;
   entry_profiles = g.entry_profiles;
   entries = g.entries;
   planned = g.planned;
 }
 
 pub unit_grows : (profile : List NamedParameter) (t : Tables) → Grows t (unit_kept profile t)
-unit_grows profile t = record { more_regions = []; more_profiles = profile ∷ []; more_tasks = []; more_entry_profiles = []; regions = sym (append-nil t.regions); profiles = refl; tasks = sym (append-nil t.tasks); even = omega (arith, length_push t.units no_body); exceptions = omega arith; objects = omega arith; distinct = λ z. z; entry_profiles = sym (append-nil t.entry_profiles); entries = omega arith; planned = λ n lt. refl }
+unit_grows profile t = record { more_regions = []; more_profiles = profile ∷ []; more_tasks = []; more_entry_profiles = []; regions = sym (append-nil t.regions); profiles = refl; tasks = sym (append-nil t.tasks); even = omega (arith, length_push t.units no_body); exceptions = omega arith; objects = omega arith; distinct = λ z. z; stay = λ n lt. refl; entry_profiles = sym (append-nil t.entry_profiles); entries = omega arith; planned = λ n lt. refl }
 
 pub task_grows : (numbers : List ℕ) (t : Tables) → Grows t (task_kept numbers t)
-task_grows numbers t = record { more_regions = []; more_profiles = [] ∷ []; more_tasks = (record { unit = length t.units; entries = numbers }) ∷ []; more_entry_profiles = []; regions = sym (append-nil t.regions); profiles = refl; tasks = refl; even = omega (arith, length_push t.units no_body); exceptions = omega arith; objects = omega arith; distinct = λ z. z; entry_profiles = sym (append-nil t.entry_profiles); entries = omega arith; planned = λ n lt. refl }
+task_grows numbers t = record { more_regions = []; more_profiles = [] ∷ []; more_tasks = (record { unit = length t.units; entries = numbers }) ∷ []; more_entry_profiles = []; regions = sym (append-nil t.regions); profiles = refl; tasks = refl; even = omega (arith, length_push t.units no_body); exceptions = omega arith; objects = omega arith; distinct = λ z. z; stay = λ n lt. refl; entry_profiles = sym (append-nil t.entry_profiles); entries = omega arith; planned = λ n lt. refl }
 
 pub own_grows : (found : Option Awaited) (t : Tables) → Grows t (tasks.body_tables found t)
 own_grows None t = task_grows [] t
@@ -126,6 +130,7 @@ entry_added_grows e profile t = record {
   exceptions = omega arith;
   objects = omega arith;
   distinct = λ z. z;
+  stay = λ n lt. refl;
   entry_profiles = refl;
   entries = length_push t.entries e;
   planned = λ n lt. ap tree.plan_of_entry (get_or_append_left t.entries (e ∷ []) (tree.task_entry []) n lt);
@@ -156,6 +161,7 @@ object_kept_grows name numbers t once = record {
   exceptions = omega arith;
   objects = omega (arith, length_push t.objects (record { name = name; entries = numbers }));
   distinct = λ z. object_distinct t.objects (record { name = name; entries = numbers }) z once;
+  stay = λ n lt. get_or_append_left t.objects ((record { name = name; entries = numbers }) ∷ []) no_object n lt;
   entry_profiles = sym (append-nil t.entry_profiles);
   entries = omega arith;
   planned = λ n lt. refl;
@@ -184,6 +190,7 @@ barrier_grows number b t = record {
   exceptions = omega arith;
   objects = omega arith;
   distinct = λ z. z;
+  stay = λ n lt. refl;
   entry_profiles = sym (append-nil t.entry_profiles);
   entries = omega (arith, length-set t.entries number (record (entry_at number t) { barrier = b }));
   planned = barred_plan number b t;

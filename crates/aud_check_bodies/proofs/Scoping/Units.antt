@@ -225,7 +225,7 @@ module _ (plan : Plan) (entries : List Entry) where
 
   -- all barriers so far are evaluated where the frames are open that their entries' bodies see
   abbrev pub Barred : Tables → Type 0
-  Barred t = (n : ℕ) → n < length t.entries → BooleanScoped (entry_at n t).barrier (entry_of entries (entry_at n t).unit).outer
+  Barred t = (n : ℕ) → n < length t.entries → BooleanScoped plan (entry_at n t).barrier (entry_of entries (entry_at n t).unit).outer
 
   -- the units that a construct declares; the others stay what they are
   abbrev pub Units : Tables → Tables → Type 0
@@ -251,24 +251,24 @@ module _ (plan : Plan) (entries : List Entry) where
   barred_push t u e p q h = λ n lt. elim (is_before n (length t.entries)) [
     | inl within ↦
         let same : entry_at n u ≡ entry_at n t = ap (λ l. slice_index_or l n (tree.task_entry [])) p ∙ get_or_append_left t.entries (e ∷ []) (tree.task_entry []) n within in
-        subst (λ (x : tree.EntryBody). BooleanScoped x.barrier (entry_of entries x.unit).outer) (sym same) (h n within)
+        subst (λ (x : tree.EntryBody). BooleanScoped plan x.barrier (entry_of entries x.unit).outer) (sym same) (h n within)
     | inr past ↦
         let is : length t.entries ≡ n = omega (arith, past, lt, ap length p, length_push t.entries e) in
         let last : entry_at n u ≡ e = ap (λ l. slice_index_or l n (tree.task_entry [])) p ∙ get_or_push t.entries e (tree.task_entry []) n is in
-        subst (λ (x : tree.EntryBody). BooleanScoped x.barrier (entry_of entries x.unit).outer) (sym last) (subst (λ x. BooleanScoped x (entry_of entries e.unit).outer) (sym q) tt)
+        subst (λ (x : tree.EntryBody). BooleanScoped plan x.barrier (entry_of entries x.unit).outer) (sym last) (subst (λ x. BooleanScoped plan x (entry_of entries e.unit).outer) (sym q) tt)
   ]
 
   -- a barrier is put in its place
-  pub barred_put : (t : Tables) (number : ℕ) (b : tree.BooleanExpression) → BooleanScoped b (entry_of entries (entry_at number t).unit).outer → Barred t → Barred (with_barrier number b t)
+  pub barred_put : (t : Tables) (number : ℕ) (b : tree.BooleanExpression) → BooleanScoped plan b (entry_of entries (entry_at number t).unit).outer → Barred t → Barred (with_barrier number b t)
   barred_put t number b i h = λ n lt.
       let e : tree.EntryBody = record (entry_at number t) { barrier = b } in
       let long = length-set t.entries number e in
       elim (is_equal n number) [
         | inl is ↦
             let there : number < length t.entries = omega (arith, is, lt, long) in
-            subst (λ k. BooleanScoped (entry_at k (with_barrier number b t)).barrier (entry_of entries (entry_at k (with_barrier number b t)).unit).outer) (sym is)
-            (subst (λ (x : tree.EntryBody). BooleanScoped x.barrier (entry_of entries x.unit).outer) (sym (get_or-set_same t.entries number e (tree.task_entry []) there)) i)
-        | inr ne ↦ subst (λ (x : tree.EntryBody). BooleanScoped x.barrier (entry_of entries x.unit).outer) (sym (get_or-set_other t.entries number n e (tree.task_entry []) ne)) (h n (omega (arith, lt, long)))
+            subst (λ k. BooleanScoped plan (entry_at k (with_barrier number b t)).barrier (entry_of entries (entry_at k (with_barrier number b t)).unit).outer) (sym is)
+            (subst (λ (x : tree.EntryBody). BooleanScoped plan x.barrier (entry_of entries x.unit).outer) (sym (get_or-set_same t.entries number e (tree.task_entry []) there)) i)
+        | inr ne ↦ subst (λ (x : tree.EntryBody). BooleanScoped plan x.barrier (entry_of entries x.unit).outer) (sym (get_or-set_other t.entries number n e (tree.task_entry []) ne)) (h n (omega (arith, lt, long)))
       ]
 
   -- later tables know of more procedures

@@ -27,9 +27,6 @@ use Rattle.aud_names.specs.declared.awaited.AwaitedPart.{AwaitedPart}
 use Rattle.aud_check_bodies.specs.Tables.{Tables, Outcome}
 use Rattle.aud_check_bodies.specs.Ties.Tables.{plain_tables}
 
-abbrev pub same_subtype : Option Subtype → Option Subtype
-same_subtype s = s
-
 -- the formals of a function, and the subtype of its value
 abbrev pub plain_signature : Vec NamedParameter Global × Option Subtype → List NamedParameter × Option Subtype
 plain_signature p = (p.0.items, p.1)

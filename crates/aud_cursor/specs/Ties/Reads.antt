@@ -101,9 +101,9 @@ pub record ReadsPast (s : Symbol) (start : Rest) (result : Result Rest Fault) : 
 abbrev pub ReadsWord : Kind → Rest → Result Rest Fault → Type 0
 ReadsWord c start result = ReadsPast (T c) start result
 
--- the tokens after an identifier that the grammar names
-abbrev pub ReadsSpelled : Word → Rest → Result Rest Fault → Type 0
-ReadsSpelled w start result = ReadsPast (W w) start result
+-- an identifier that the grammar names, and the tokens after it
+abbrev pub ReadsSpelled : Word → Rest → Result (Bor Element × Rest) Fault → Type 0
+ReadsSpelled w start result = ReadsFlat (λ t. token t.now) (W w) start result
 
 -- the next token is of this kind, or of another
 abbrev pub NextIs : Kind → Rest → Option (Bor Element × Rest) → Type 0

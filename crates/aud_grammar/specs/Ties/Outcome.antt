@@ -21,7 +21,7 @@ pub data Out : List Symbol → ℕ → List Element → List Item → Verdict �
   o_no_token : {c : Kind} {k : List Symbol} {r : ℕ} {ts : List Element} →
       next_in (c ∷ []) ts ≡ false → Out (P c ∷ k) r ts [] (Wrong ts)
   o_spelled : {w : Word} {k : List Symbol} {r : ℕ} {t : Element} {ts : List Element} {ds : List Item} {v : Verdict} →
-      is_word w t ≡ true → Out k r ts ds v → Out (W w ∷ k) r (t ∷ ts) ds v
+      is_word w t ≡ true → Out k r ts ds v → Out (W w ∷ k) r (t ∷ ts) (token t ∷ ds) v
   o_misspelled : {w : Word} {k : List Symbol} {r : ℕ} {ts : List Element} →
       next_word w ts ≡ false → Out (W w ∷ k) r ts [] (Wrong ts)
   o_rule : {p : Phrase} {k : List Symbol} {r : ℕ} {ts : List Element} {ds : List Item} {v : Verdict} →

@@ -20,7 +20,7 @@ pub data Derives : List Symbol → ℕ → List Item → List Element → Type 0
   d_token : {c : Kind} {k : List Symbol} {r : ℕ} {ds : List Item} {t : Element} {ts : List Element} →
       among (c ∷ []) (kind_number t.kind) ≡ true → Derives k r ds ts → Derives (P c ∷ k) r (token t ∷ ds) (t ∷ ts)
   d_spelled : {w : Word} {k : List Symbol} {r : ℕ} {ds : List Item} {t : Element} {ts : List Element} →
-      is_word w t ≡ true → Derives k r ds ts → Derives (W w ∷ k) r ds (t ∷ ts)
+      is_word w t ≡ true → Derives k r ds ts → Derives (W w ∷ k) r (token t ∷ ds) (t ∷ ts)
   d_rule : {p : Phrase} {k : List Symbol} {r : ℕ} {ds : List Item} {ts : List Element} →
       Derives (rule p ++ k) r ds ts → Derives (N p ∷ k) r (made p ds) ts
   d_level : {p : Phrase} {k : List Symbol} {r : ℕ} {ds : List Item} {ts : List Element} →

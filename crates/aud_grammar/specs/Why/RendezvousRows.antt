@@ -88,9 +88,9 @@ Delays =
     × StatementIs (codes "delay 2147483648.1;")
     (m.delaying (m.delay_real (col 1) (real None (Some 100) 7)))
     × StatementIs (codes "delay Duration (X);")
-    (m.delaying (m.delay_duration (col 1) (variable (codes "X") 17)))
+    (m.delaying (m.delay_duration (col 1) (col 7) (variable (codes "X") 17)))
     × StatementIs (codes "delay DURATION (1 + 2);")
-    (m.delaying (m.delay_duration (col 1) (sum (one (num 1 (col 17))) (adding Plus (num 2 (col 21)) ∷ []))))
+    (m.delaying (m.delay_duration (col 1) (col 7) (sum (one (num 1 (col 17))) (adding Plus (num 2 (col 21)) ∷ []))))
 
 -- RM 9.5.2(3)
 abbrev pub Accepts : Type 0
@@ -110,7 +110,7 @@ CallsInSelect =
     StatementIs (codes "select P.A; or delay 1.0; end select;")
     (m.select_call (col 1) P_A m.no_statements (m.or_delay (delays 16 1) m.no_statements))
     × StatementIs (codes "select P.A (1); null; or delay Duration (X); P; Q; end select;")
-    (m.select_call (col 1) (the_name (a_part (codes "P") 8 []) (a_part (codes "A") 10 (num 1 (col 13) ∷ []) ∷ [])) (then_null 17) (m.or_delay (m.delay_duration (col 26) (variable (codes "X") 42)) (more (calls (codes "P") 46 ∷ calls (codes "Q") 49 ∷ []))))
+    (m.select_call (col 1) (the_name (a_part (codes "P") 8 []) (a_part (codes "A") 10 (num 1 (col 13) ∷ []) ∷ [])) (then_null 17) (m.or_delay (m.delay_duration (col 26) (col 32) (variable (codes "X") 42)) (more (calls (codes "P") 46 ∷ calls (codes "Q") 49 ∷ []))))
     × StatementIs (codes "select P; else null; end select;")
     (m.select_call (col 1) (the_name (a_part (codes "P") 8 []) []) m.no_statements (m.or_else (alone_statement (m.null (col 16)))))
     × StatementIs (codes "select P; null; else null; P; end select;")

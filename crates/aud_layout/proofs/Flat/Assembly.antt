@@ -9,7 +9,7 @@ use Rattle.aud_layout.specs.Assembly.{instructions_by, line_size, offset, end_li
 use Rattle.aud_meaning.specs.declared.state.Construct.TheVariants as construct
 
 -- a step's lines, whatever stands behind them
-its_instructions : (is : List Instruction) (l : EndLine) (rest : List FlatLine) → instructions_from ((map instructs is ++ end l ∷ []) ++ rest) ≡ is
+pub its_instructions : (is : List Instruction) (l : EndLine) (rest : List FlatLine) → instructions_from ((map instructs is ++ end l ∷ []) ++ rest) ≡ is
 its_instructions [] l rest = refl
 its_instructions (i ∷ is) l rest = ap (λ js. i ∷ js) (its_instructions is l rest)
 

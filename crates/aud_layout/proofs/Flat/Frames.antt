@@ -5,14 +5,14 @@ use Rattle.aud_text.specs.declared.place.Pos.{Pos}
 use Rattle.aud_meaning.specs.declared.state.Construct.{Construct}
 use Rattle.aud_code.specs.Places.{Way}
 use Rattle.aud_code.specs.Instruction.{Instruction, Accept, Select, Block}
-use Rattle.aud_code.specs.Flat.{Last, Does, EndLine, FlatLine, instructs, end}
+use Rattle.aud_code.specs.Flat.{Last, Does, EndLine, FlatLine, instructs, end, instructions_from}
 use Rattle.aud_code.specs.Frames.{found_from, Found, OpensBlock, OpensAccept, found, At, AcceptAround, OutOfLoops, GoTo, OutOf, OutFits, Behind, LastFits}
 use Rattle.aud_layout.specs.Layout.{Line, Around, around_out, end_line}
 use Rattle.aud_layout.specs.Assembly as assembly
 use Rattle.aud_layout.specs.Assembly.{instructions_by, offset, last_by, within_moved, assembled_from}
 use Rattle.aud_layout.specs.Shows.{HasAt}
 use Rattle.aud_layout.proofs.Standing.Places.{has_front, has_back}
-use Rattle.aud_layout.proofs.Flat.Assembly.{from_step}
+use Rattle.aud_layout.proofs.Flat.Assembly.{its_instructions, from_step}
 
 its_end : (is : List Instruction) (l : EndLine) (rest : List FlatLine) → found_from ((map instructs is ++ end l ∷ []) ++ rest) ≡ Some l
 its_end [] l rest = refl
@@ -23,6 +23,11 @@ module _ (f : ℕ → ℕ) where
   found_at lines zero l rest e = subst (λ ls. found_from (drop (offset ls zero) (assembled_from f ls)) ≡ Some (assembly.end_line f l)) (sym e) (its_end (instructions_by l.what) (assembly.end_line f l) (assembled_from f rest))
   found_at [] (suc n) l rest e = absurd (omega (arith, ap length e))
   found_at (x ∷ xs) (suc n) l rest e = ap found_from (from_step f x xs (offset xs n)) ∙ found_at xs n l rest e
+
+  pub instructions_found : (lines : List Line) (n : ℕ) (l : Line) (rest : List Line) → drop n lines ≡ l ∷ rest → instructions_from (drop (offset lines n) (assembled_from f lines)) ≡ instructions_by l.what
+  instructions_found lines zero l rest e = subst (λ ls. instructions_from (drop (offset ls zero) (assembled_from f ls)) ≡ instructions_by l.what) (sym e) (its_instructions (instructions_by l.what) (assembly.end_line f l) (assembled_from f rest))
+  instructions_found [] (suc n) l rest e = absurd (omega (arith, ap length e))
+  instructions_found (x ∷ xs) (suc n) l rest e = ap instructions_from (from_step f x xs (offset xs n)) ∙ instructions_found xs n l rest e
 
   -- nothing stands behind all lines
   pub found_none : (lines : List Line) (n : ℕ) → drop n lines ≡ [] → found_from (drop (offset lines n) (assembled_from f lines)) ≡ None
@@ -44,6 +49,10 @@ module _ (lines : List Line) where
 
   pub at_step : (at : ℕ) (l : Line) (b : List Line) → HasAt lines at (l ∷ b) → found X (F at) ≡ Some (assembly.end_line F l)
   at_step at l b h = found_at F lines at l (b ++ h.rest) h.is
+
+  -- its instructions
+  pub its_step : (at : ℕ) (l : Line) (b : List Line) (P : List Instruction → Type 0) → HasAt lines at (l ∷ b) → P (instructions_by l.what) → P (instructions_from (drop (F at) X))
+  its_step at l b P h p = subst P (sym (instructions_found F lines at l (b ++ h.rest) h.is)) p
 
   pub found_is : (at : ℕ) (l : Line) (b : List Line) (P : EndLine → Type 0) → HasAt lines at (l ∷ b) → P (assembly.end_line F l) → Found (found X (F at)) P
   found_is at l b P h p = subst (λ o. Found o P) (sym (at_step at l b h)) p

@@ -1,18 +1,20 @@
 -- The lines of each part of a program fit the frames around it.
-use Rattle.std.proofs.Common.{◌≡◌, inl, ℕ, suc, ◌+◌, List, [], ◌∷◌, ◌++◌, map, Option, Some, None, refl, sym, ap, ◌∙◌}
+use Rattle.std.proofs.Common.{◌≡◌, inl, ℕ, suc, ◌+◌, List, [], ◌∷◌, ◌++◌, map, slice_get, Option, Some, None, refl, sym, ap, ◌∙◌}
 use Rattle.aud_typed.specs.Tree.{Statement, sequence, declare, if_then, plain_loop, while_loop, for_loop, exit, return, return_value, block, entry_call, accept, select, Part, nothing, some, Handlers, no_handlers, handler, Body, body, Doing, without_do, with_do, Alternatives, no_alternatives, accepting, delaying, terminating, Callee, of_task, of_object, CallForm, requeue}
 use Rattle.aud_meaning.specs.declared.state.Construct.{Construct}
 use Rattle.aud_meaning.specs.declared.state.Construct.TheVariants as construct
 use Rattle.aud_code.specs.Places.{Way}
+use Rattle.aud_code.specs.Instruction.{Instruction, Ending, Accept, Select}
 use Rattle.aud_code.specs.Flat.{Does, EndLine, FlatLine}
-use Rattle.aud_code.specs.Frames.{OpensLoop, OpensBlock, TakesExceptions, IsEnd, At, OutOf, OutFits, WayFits, WaysAt, BodiesAt, Behind, LastFits}
-use Rattle.aud_layout.specs.Layout.{one_line, Line, Around, line, in_loop, in_for, in_block, in_call, around_out, ways_count, statement_size, part_size, body_size, doing_size, offered_size, main_size, end_place, stubs_of, part_place, statement_code, part_code, handlers_code, body_code, doing_code, offered_code}
+use Rattle.aud_code.specs.Frames.{OpensLoop, OpensBlock, TakesExceptions, IsEnd, At, OutOf, OutFits, WayFits, WaysAt, BodiesAt, EitherAt, Behind, LastFits, EachOpened, IsWritten, BodyAt}
+use Rattle.aud_layout.specs.Layout.{one_line, Line, Around, line, in_loop, in_for, in_block, in_call, around_out, ways_count, statement_size, part_size, body_size, doing_size, offered_size, main_size, end_place, stubs_of, part_place, bodies_from, statement_code, part_code, handlers_code, body_code, doing_code, offered_code}
 use Rattle.aud_layout.specs.Assembly.{offset, within_moved, end_line, assembled_from}
-use Rattle.aud_layout.specs.Instructions.{call_end}
+use Rattle.aud_layout.specs.Instructions.{call_end, ending_of}
 use Rattle.aud_layout.specs.Shows.{HasAt}
 use Rattle.aud_layout.proofs.Standing.Sizes.{count-block, last_is}
 use Rattle.aud_layout.proofs.Standing.Places.{has_tail, has_moved, has_all, body_at, offer_has, length-statement, length-part, length-handlers, length-body, length-doing, length-offered}
-use Rattle.aud_layout.proofs.Flat.Frames.{found_is, at_line, EachFits, no_lines, one_and, both, split, WayOut, AroundFits, InsideFits, within_inside, EndFits, AcceptFits, accept_fits}
+use Rattle.aud_layout.proofs.Flat.Frames.{its_step, found_is, at_line, EachFits, no_lines, one_and, both, split, WayOut, AroundFits, InsideFits, within_inside, EndFits, AcceptFits, accept_fits}
+use Rattle.aud_layout.proofs.Flat.Opening.{NoAccepts, requeue_has_none, select_opened}
 use Rattle.aud_layout.proofs.Flat.FramesWays.{statement_begins, part_begins, body_begins, doing_begins, guards_fit, offers_fit, exit_fits, loop_fits, for_fits, all_stubs_fit, block_fits, call_fits}
 
 module _ (lines : List Line) where
@@ -26,13 +28,18 @@ module _ (lines : List Line) where
   M = within_moved (offset lines)
 
   -- a call of an entry
-  entry_fits : (c : Callee) (entry : ℕ) (form : CallForm) (at : ℕ) (l : EndLine) → WaysAt X l.within l.within l.ways → BodiesAt X l.within at l.bodies × (WayFits X l.within l.exit × OutFits X l.within l.out) → LastFits X (Does (call_end c entry form)) at l
+  entry_fits : (c : Callee) (entry : ℕ) (form : CallForm) (at : ℕ) (l : EndLine) → WaysAt X l.within l.within l.ways → EitherAt X l.within at l.bodies × (WayFits X l.within l.exit × OutFits X l.within l.out) → LastFits X (Does (call_end c entry form)) at l
   entry_fits (of_task t) entry form at l w b = (w, b)
   entry_fits (of_object v) entry form at l w b = (w, b)
 
+  none_stand : (e : Ending) (w : Option ℕ) (at : ℕ) → NoAccepts e → BodiesAt X e w at []
+  none_stand (Accept entry region) w at h = absurd h
+  none_stand (Select has_else) w at h = absurd h
+  none_stand e w at h = tt
+
   -- a statement that leads out
-  way_fits : (s : Statement) (at next : ℕ) (w : Way) (a : Around) → At X (F next) (M a.within) → WayOut lines (M a.within) w → AroundFits lines a → EachFits lines at (line s (next ∷ []) [] (Some w) a ∷ [])
-  way_fits s at next w a k o i = one_and (record { is = ((k, tt), (tt, (o, i.out))) }) no_lines
+  way_fits : (s : Statement) (at next : ℕ) (w : Way) (a : Around) → NoAccepts (ending_of s) → At X (F next) (M a.within) → WayOut lines (M a.within) w → AroundFits lines a → EachFits lines at (line s (next ∷ []) [] (Some w) a ∷ [])
+  way_fits s at next w a n k o i = one_and (record { is = ((k, tt), (none_stand (ending_of s) (M a.within) (F at) n, (o, i.out))) }) no_lines
 
   mutual
     pub statement_fits : (s : Statement) (at next : ℕ) (a : Around) → HasAt lines at (statement_code s at next a) → At X (F next) (M a.within) → AroundFits lines a → EachFits lines at (statement_code s at next a)
@@ -93,12 +100,14 @@ module _ (lines : List Line) where
         let it = split lines _ _ (suc at) _ (length-offered offered at (suc at) next a) (has_tail lines at _ _ h) in
         let places = offers_fit lines offered at (suc at) next a it.front k in
         let opens = accept_fits lines at _ _ h tt in
-        one_and (record { is = ((part_begins lines p second next a it.back k, places.parts), ((inl (at_line lines at _ _ h), places.bodies), (tt, i.out))) })
+        let Opened : List Instruction → Type 0 = λ is. EachOpened is (λ x. IsWritten (slice_get (F at ∷ map F (bodies_from offered (suc at) next e)) x.alternative) (BodyAt X x.region (M a.within) (F at))) in
+        let does = its_step lines at _ _ Opened h (select_opened F (λ region b. BodyAt X region (M a.within) (F at) b) offered (F at) (suc at) next e places.does) in
+        one_and (record { is = ((part_begins lines p second next a it.back k, places.parts), (((inl (at_line lines at _ _ h), places.bodies), does), (tt, i.out))) })
         (it.join (offered_fits offered at (suc at) next a it.front k i opens) (part_fits p second next a it.back k i))
-    statement_fits (exit pos n c) at next a h k i = way_fits (exit pos n c) at next _ a k (exit_fits lines (M a.within) a.exits n next i.exits k) i
-    statement_fits (return pos) at next a h k i = way_fits (return pos) at next a.back a k i.back i
-    statement_fits (return_value pos x) at next a h k i = way_fits (return_value pos x) at next a.back a k i.back i
-    statement_fits (requeue pos r) at next a h k i = way_fits (requeue pos r) at next a.back a k i.back i
+    statement_fits (exit pos n c) at next a h k i = way_fits (exit pos n c) at next _ a tt k (exit_fits lines (M a.within) a.exits n next i.exits k) i
+    statement_fits (return pos) at next a h k i = way_fits (return pos) at next a.back a tt k i.back i
+    statement_fits (return_value pos x) at next a h k i = way_fits (return_value pos x) at next a.back a tt k i.back i
+    statement_fits (requeue pos r) at next a h k i = way_fits (requeue pos r) at next a.back a (requeue_has_none r.callee r) k i.back i
     statement_fits s at next a h k i = one_and (record { is = ((k, tt), (tt, (tt, i.out))) }) no_lines
 
     part_fits : (p : Part) (at next : ℕ) (a : Around) → HasAt lines at (part_code p at next a) → At X (F next) (M a.within) → AroundFits lines a → EachFits lines at (part_code p at next a)

@@ -1,17 +1,19 @@
 -- Where ways lead, the frames are open that are open there.
-use Rattle.std.proofs.Common.{◌≡◌, ◌⊎◌, inl, inr, ℕ, zero, suc, ◌+◌, List, [], ◌∷◌, ◌++◌, length, map, slice_index_or, Option, Some, sym, subst, arith}
+use Rattle.std.proofs.Common.{◌≡◌, ◌⊎◌, inl, inr, ℕ, zero, suc, ◌+◌, List, [], ◌∷◌, ◌++◌, length, map, slice_index_or, Option, Some, None, sym, subst, arith}
 use Rattle.aud_text.specs.declared.place.Pos.{Pos}
 use Rattle.aud_typed.specs.Tree.{Statement, sequence, plain_loop, Part, nothing, some, Handlers, no_handlers, handler, Body, body, Doing, without_do, with_do, Alternatives, no_alternatives, accepting, delaying, terminating}
 use Rattle.aud_meaning.specs.declared.state.Construct.{Construct}
 use Rattle.aud_meaning.specs.declared.state.Construct.TheVariants as construct
+use Rattle.aud_meaning.specs.Statements.{region_of}
 use Rattle.aud_code.specs.Places.{Way}
 use Rattle.aud_code.specs.Flat.{FlatLine}
-use Rattle.aud_code.specs.Frames.{OpensLoop, OpensBlock, At, EachAt, OutOfLoops, GoTo, OutFits, BodiesAt, GuardsAt}
+use Rattle.aud_code.specs.Frames.{OpensLoop, OpensBlock, At, EachAt, OutOfLoops, GoTo, OutFits, BodyAt, EitherAt, GuardsAt}
 use Rattle.aud_layout.specs.Layout.{Line, Around, one_more, in_loop, in_for, in_block, in_call, around_out, ways_count, statement_size, part_size, doing_size, main_size, end_place, stubs, stub_ways, stubs_of, guards_of, part_place, doing_place, parts_from, bodies_from, statement_code, part_code, handlers_code, body_code, doing_code, offered_code}
 use Rattle.aud_layout.specs.Assembly.{offset, guard_moved, last_by, within_moved, assembled_from}
 use Rattle.aud_layout.specs.Shows.{HasAt}
 use Rattle.aud_layout.proofs.Standing.Places.{has_front, has_tail, has_all, body_at, offer_has, length-statement, length-part}
 use Rattle.aud_layout.proofs.Flat.Frames.{found_is, at_line, WayOut, WaysOut, AroundFits, InsideFits, EachFits, no_lines, one_and, split, block_out}
+use Rattle.aud_layout.proofs.Flat.Opening.{EachDoes}
 
 module _ (lines : List Line) where
   abbrev F : ℕ → ℕ
@@ -54,9 +56,13 @@ module _ (lines : List Line) where
       at_line lines _ _ _ it.main.ended
 
   -- what an accept does
-  pub doing_begins : (d : Doing) (opener at next out : ℕ) (w : Option ℕ) → HasAt lines at (doing_code d opener at next out) → At X (F next) w → At X (F (doing_place d at next)) w ⊎ At X (F (doing_place d at next)) (Some (F opener))
-  doing_begins without_do opener at next out w h k = inl k
-  doing_begins (with_do n b) opener at next out w h k = inr (body_begins construct.Accept b at next out (in_call (Some opener) (end_place b at 1)) h)
+  pub doing_begins : (d : Doing) (opener at next out : ℕ) (w : Option ℕ) → HasAt lines at (doing_code d opener at next out) → At X (F next) w → BodyAt X (region_of d) w (F opener) (F (doing_place d at next))
+  doing_begins without_do opener at next out w h k = k
+  doing_begins (with_do n b) opener at next out w h k = body_begins construct.Accept b at next out (in_call (Some opener) (end_place b at 1)) h
+
+  is_either : (region : Option ℕ) (w : Option ℕ) (opener b : ℕ) → BodyAt X region w opener b → At X b w ⊎ At X b (Some opener)
+  is_either None w opener b h = inl h
+  is_either (Some region) w opener b h = inr h
 
   pub guards_fit : (hs : Handlers) (at next : ℕ) (a : Around) → HasAt lines at (handlers_code hs at next a) → GuardsAt X (M a.within) (map (guard_moved F) (guards_of hs at (ways_count a)))
   guards_fit no_handlers at next a h = tt
@@ -67,24 +73,27 @@ module _ (lines : List Line) where
   -- what follows the alternatives of a selective accept, and what their accepts do
   pub record OffersFit (o : Alternatives) (opener at next : ℕ) (a : Around) : Type 0 where
     pub parts : EachAt X (map F (parts_from o at next (ways_count a))) (M a.within)
-    pub bodies : BodiesAt X (M a.within) (F opener) (map F (bodies_from o at next (ways_count a)))
+    pub bodies : EitherAt X (M a.within) (F opener) (map F (bodies_from o at next (ways_count a)))
+    pub does : EachDoes F (λ region b. BodyAt X region (M a.within) (F opener) b) o at next (ways_count a)
 
   pub offers_fit : (o : Alternatives) (opener at next : ℕ) (a : Around) → HasAt lines at (offered_code o opener at next a) → At X (F next) (M a.within) → OffersFit o opener at next a
-  offers_fit no_alternatives opener at next a h k = record { parts = tt; bodies = tt }
+  offers_fit no_alternatives opener at next a h k = record { parts = tt; bodies = tt; does = tt }
   offers_fit (accepting g pos n d p more) opener at next a h k =
       let after = at + doing_size d in
       let it = offer_has lines d p more opener at next a h in
       let to = part_begins p after next a it.part k in
       let rest = offers_fit more opener (after + part_size p (ways_count a)) next a it.others k in
-      record { parts = (to, rest.parts); bodies = (doing_begins d opener at (part_place p after next) a.out (M a.within) it.doing to, rest.bodies) }
+      let place = doing_place d at (part_place p after next) in
+      let does = doing_begins d opener at (part_place p after next) a.out (M a.within) it.doing to in
+      record { parts = (to, rest.parts); bodies = (is_either (region_of d) (M a.within) (F opener) (F place) does, rest.bodies); does = (does, rest.does) }
   offers_fit (delaying g x p more) opener at next a h k =
       let it = split lines _ _ at _ (length-part p at next a) h in
       let to = part_begins p at next a it.front k in
       let rest = offers_fit more opener (at + part_size p (ways_count a)) next a it.back k in
-      record { parts = (to, rest.parts); bodies = (inl to, rest.bodies) }
+      record { parts = (to, rest.parts); bodies = (inl to, rest.bodies); does = rest.does }
   offers_fit (terminating g more) opener at next a h k =
       let rest = offers_fit more opener at next a h k in
-      record { parts = (k, rest.parts); bodies = (inl k, rest.bodies) }
+      record { parts = (k, rest.parts); bodies = (inl k, rest.bodies); does = rest.does }
 
   -- Loops.
 

@@ -6,7 +6,8 @@ use Rattle.aud_typed.specs.declared.program.ArrayAt.{ArrayAt}
 use Rattle.aud_typed.specs.Tree.{IntegerExpression, number, variable, element, unary, binary, count, Reference, scalar, component, TaskName, single, indexed, BooleanExpression, truth, stored, negation, relation, comparison, logical, and_then, or_else, callable, terminated, ValueExpression, whole, boolean, TextExpression, literal, image, image_truth, join, new_line, DelayExpression, milliseconds, seconds, Argument, by_value, by_copy, CallForm, plainly, conditionally, timed, Callee, of_task, of_object, Statement, sequence, declare, declare_array, declare_tasks, declare_object, assign, put, if_then, while_loop, for_loop, exit, return_value, procedure_call, own_entry_call, operation_call, entry_call, delay, select, abort, Alternatives, no_alternatives, accepting, delaying, terminating, Plan, requeue}
 use Rattle.aud_typed.specs.Why.Scoped.{Elaborated, Scope, cells_at, IsElaborated, AreElaborated, IntegerScoped, ReferenceScoped, TaskScoped, AllTasksScoped, BooleanScoped, ValueScoped, ArgumentScoped, ArgumentsScoped, TextScoped, DelayScoped, FormScoped, CalleeScoped, IntoScoped, ComponentsScoped, own_number, in_innermost, declared_up_to, declared_with, scope_after, Entry, AreOpen, AreAround, StatementScoped, AlternativesScoped}
 use Rattle.aud_code.specs.Instruction.{Instruction}
-use Rattle.aud_code.specs.Seen.{IsWritten, ArrayOpen, Fewer, OutSees}
+use Rattle.aud_code.specs.Frames.{IsWritten}
+use Rattle.aud_code.specs.Seen.{ArrayOpen, Fewer, OutSees}
 use Rattle.aud_code.specs.Seen as seen
 use Rattle.aud_layout.specs.Layout.{What, does}
 use Rattle.aud_layout.specs.Assembly.{instructions_by}
@@ -95,35 +96,35 @@ both : (n : ℕ) (is js : List Instruction) → AllOpen n is → AllOpen n js �
 both n [] js h k = k
 both n (i ∷ is) js h k = (h.0, both n is js h.1 k)
 
-module _ (scope : Scope) where
+module _ (plan : Plan) (scope : Scope) where
   abbrev N : ℕ
   N = length scope
 
-  integer_open : (e : IntegerExpression) → IntegerScoped e scope → AllOpen N (integer_code e)
+  integer_open : (e : IntegerExpression) → IntegerScoped plan e scope → AllOpen N (integer_code e)
   integer_open (number z) h = (tt, tt)
   integer_open (variable v) h = (variable_open v scope h, tt)
   integer_open (element a e) h = both N (integer_code e) _ (integer_open e h.1) (array_open a scope h.0, tt)
   integer_open (unary f x) h = both N (integer_code x) _ (integer_open x h) (tt, tt)
   integer_open (binary f x y) h = both N (integer_code x) _ (integer_open x h.0) (both N (integer_code y) _ (integer_open y h.1) (tt, tt))
-  integer_open (count v entry) h = (variable_open v scope h, tt)
+  integer_open (count v entry) h = (variable_open v scope h.0, tt)
 
-  loaded_open : (r : Reference) → ReferenceScoped r scope → AllOpen N (loaded_code r)
+  loaded_open : (r : Reference) → ReferenceScoped plan r scope → AllOpen N (loaded_code r)
   loaded_open (scalar v t) h = (variable_open v scope h, tt)
   loaded_open (component a e t) h = both N (integer_code e) _ (integer_open e h.1) (array_open a scope h.0, tt)
 
-  reference_open : (r : Reference) → ReferenceScoped r scope → AllOpen N (reference_code r)
+  reference_open : (r : Reference) → ReferenceScoped plan r scope → AllOpen N (reference_code r)
   reference_open (scalar v t) h = (variable_open v scope h, tt)
   reference_open (component a e t) h = both N (integer_code e) _ (integer_open e h.1) (array_open a scope h.0, tt)
 
-  task_open : (t : TaskName) → TaskScoped t scope → AllOpen N (task_code t)
+  task_open : (t : TaskName) → TaskScoped plan t scope → AllOpen N (task_code t)
   task_open (single v) h = (variable_open v scope h, tt)
   task_open (indexed a e) h = both N (integer_code e) _ (integer_open e h.1) (array_open a scope h.0, tt)
 
-  tasks_open : (ts : List TaskName) → AllTasksScoped ts scope → AllOpen N (names_code ts)
+  tasks_open : (ts : List TaskName) → AllTasksScoped plan ts scope → AllOpen N (names_code ts)
   tasks_open [] h = tt
   tasks_open (t ∷ ts) h = both N (task_code t) _ (task_open t h.0) (tt, tasks_open ts h.1)
 
-  pub condition_open : (e : BooleanExpression) → BooleanScoped e scope → AllOpen N (condition_code e)
+  pub condition_open : (e : BooleanExpression) → BooleanScoped plan e scope → AllOpen N (condition_code e)
   condition_open (truth b) h = (tt, tt)
   condition_open (stored r) h = both N (loaded_code r) _ (loaded_open r h) (tt, tt)
   condition_open (negation x) h = both N (condition_code x) _ (condition_open x h) (tt, tt)
@@ -135,55 +136,55 @@ module _ (scope : Scope) where
   condition_open (callable t) h = both N (task_code t) _ (task_open t h) (tt, tt)
   condition_open (terminated t) h = both N (task_code t) _ (task_open t h) (tt, tt)
 
-  value_open : (e : ValueExpression) → ValueScoped e scope → AllOpen N (value_code e)
+  value_open : (e : ValueExpression) → ValueScoped plan e scope → AllOpen N (value_code e)
   value_open (whole t e) h = both N (integer_code e) _ (integer_open e h) (tt, tt)
   value_open (boolean e) h = both N (condition_code e) _ (condition_open e h) (tt, tt)
 
-  text_open : (t : TextExpression) → TextScoped t scope → AllOpen N (text_code t)
+  text_open : (t : TextExpression) → TextScoped plan t scope → AllOpen N (text_code t)
   text_open (literal text) h = (tt, tt)
   text_open (image e) h = both N (integer_code e) _ (integer_open e h) (tt, tt)
   text_open (image_truth e) h = both N (condition_code e) _ (condition_open e h) (tt, tt)
   text_open (join x y) h = both N (text_code x) _ (text_open x h.0) (text_open y h.1)
   text_open new_line h = (tt, tt)
 
-  argument_open : (n : ℕ) (a : Argument) → ArgumentScoped a scope → AllOpen N (argument_code n a)
+  argument_open : (n : ℕ) (a : Argument) → ArgumentScoped plan a scope → AllOpen N (argument_code n a)
   argument_open n (by_value e) h = both N (value_code e) _ (value_open e h) (tt, tt)
   argument_open n (by_copy true formal r) h = both N (reference_code r) _ (reference_open r h) (tt, (tt, (tt, tt)))
   argument_open n (by_copy false formal r) h = both N (reference_code r) _ (reference_open r h) (tt, (tt, tt))
 
-  arguments_open : (n : ℕ) (xs : List Argument) → ArgumentsScoped xs scope → AllOpen N (arguments_code n xs)
+  arguments_open : (n : ℕ) (xs : List Argument) → ArgumentsScoped plan xs scope → AllOpen N (arguments_code n xs)
   arguments_open n [] h = tt
   arguments_open n (x ∷ xs) h = both N (argument_code n x) _ (argument_open n x h.0) (arguments_open (n + 1) xs h.1)
 
-  delay_open : (e : DelayExpression) → DelayScoped e scope → AllOpen N (delay_code e)
+  delay_open : (e : DelayExpression) → DelayScoped plan e scope → AllOpen N (delay_code e)
   delay_open (milliseconds n) h = (tt, tt)
   delay_open (seconds e) h = both N (integer_code e) _ (integer_open e h) (tt, tt)
 
-  form_open : (f : CallForm) → FormScoped f scope → AllOpen N (form_code f)
+  form_open : (f : CallForm) → FormScoped plan f scope → AllOpen N (form_code f)
   form_open plainly h = tt
   form_open conditionally h = tt
   form_open (timed e) h = delay_open e h
 
-  called_open : (xs : List Argument) (f : CallForm) → ArgumentsScoped xs scope → FormScoped f scope → AllOpen N (called_code xs f)
+  called_open : (xs : List Argument) (f : CallForm) → ArgumentsScoped plan xs scope → FormScoped plan f scope → AllOpen N (called_code xs f)
   called_open xs f h k = both N (arguments_code 0 xs) _ (arguments_open 0 xs h) (form_open f k)
 
-  call_open : (c : Callee) (xs : List Argument) (f : CallForm) → CalleeScoped c scope → ArgumentsScoped xs scope → FormScoped f scope → AllOpen N (call_code c xs f)
+  call_open : (c : Callee) (xs : List Argument) (f : CallForm) → CalleeScoped plan c scope → ArgumentsScoped plan xs scope → FormScoped plan f scope → AllOpen N (call_code c xs f)
   call_open (of_task t) xs f h k l = both N (task_code t) _ (task_open t h) (tt, (tt, called_open xs f k l))
   call_open (of_object v) xs f h k l = called_open xs f k l
 
-  requeue_open : (c : Callee) → CalleeScoped c scope → AllOpen N (requeue_code c)
+  requeue_open : (c : Callee) → CalleeScoped plan c scope → AllOpen N (requeue_code c)
   requeue_open (of_task t) h = both N (task_code t) _ (task_open t h) (tt, tt)
   requeue_open (of_object v) h = tt
 
-  into_open : (r : Option Reference) → IntoScoped r scope → AllOpen N (into_code r)
+  into_open : (r : Option Reference) → IntoScoped plan r scope → AllOpen N (into_code r)
   into_open None h = tt
   into_open (Some r) h = reference_open r h
 
 -- of an object that is declared, each sees the earlier ones
-components_open : (scope : Scope) (es : List ValueExpression) (own : Elaborated) → ComponentsScoped es own scope → AllOpen (suc (length scope)) (components_code es)
-components_open scope [] own h = tt
-components_open scope (e ∷ es) own h =
-    both (suc (length scope)) (value_code e) _ (subst (λ n. AllOpen n (value_code e)) (one_longer scope own (length scope) refl) (value_open (scope ++ own ∷ []) e h.0)) (tt, components_open scope es (declared_with 1 own) h.1)
+components_open : (plan : Plan) (scope : Scope) (es : List ValueExpression) (own : Elaborated) → ComponentsScoped plan es own scope → AllOpen (suc (length scope)) (components_code es)
+components_open plan scope [] own h = tt
+components_open plan scope (e ∷ es) own h =
+    both (suc (length scope)) (value_code e) _ (subst (λ n. AllOpen n (value_code e)) (one_longer scope own (length scope) refl) (value_open plan (scope ++ own ∷ []) e h.0)) (tt, components_open plan scope es (declared_with 1 own) h.1)
 
 module _ (scope : Scope) where
   abbrev M : ℕ
@@ -192,35 +193,35 @@ module _ (scope : Scope) where
   module _ (plan : Plan) (entries : List Entry) where
     guards_open : (n : ℕ) (o : Alternatives) → AlternativesScoped plan entries o scope → AllOpen M (guards_code n o)
     guards_open n no_alternatives h = tt
-    guards_open n (accepting g at e d p more) h = both M (condition_code g) _ (condition_open scope g h.0) (tt, guards_open (suc n) more h.4)
-    guards_open n (delaying g e p more) h = both M (condition_code g) _ (condition_open scope g h.0) (tt, guards_open (suc n) more h.3)
-    guards_open n (terminating g more) h = both M (condition_code g) _ (condition_open scope g h.0) (tt, guards_open (suc n) more h.1)
+    guards_open n (accepting g at e d p more) h = both M (condition_code g) _ (condition_open plan scope g h.0) (tt, guards_open (suc n) more h.4)
+    guards_open n (delaying g e p more) h = both M (condition_code g) _ (condition_open plan scope g h.0) (tt, guards_open (suc n) more h.3)
+    guards_open n (terminating g more) h = both M (condition_code g) _ (condition_open plan scope g h.0) (tt, guards_open (suc n) more h.1)
 
     delays_open : (n : ℕ) (o : Alternatives) → AlternativesScoped plan entries o scope → AllOpen M (delays_code n o)
     delays_open n no_alternatives h = tt
     delays_open n (accepting g at e d p more) h = delays_open (suc n) more h.4
-    delays_open n (delaying g e p more) h = (tt, both M (timed_code n e) _ (both M (delay_code e) _ (delay_open scope e h.1) (tt, tt)) (delays_open (suc n) more h.3))
+    delays_open n (delaying g e p more) h = (tt, both M (timed_code n e) _ (both M (delay_code e) _ (delay_open plan scope e h.1) (tt, tt)) (delays_open (suc n) more h.3))
     delays_open n (terminating g more) h = delays_open (suc n) more h.1
 
     -- of a statement's own step
     statement_open : (s : Statement) → StatementScoped plan entries s scope → StepOpen M (does s)
-    statement_open (declare at up_to e) h = value_open scope e h
-    statement_open (assign at r e) h = both M (reference_code r) _ (reference_open scope r h.0) (value_open scope e h.1)
-    statement_open (put at t) h = text_open scope t h
-    statement_open (if_then at e a p) h = condition_open scope e h.0
-    statement_open (while_loop at e a) h = condition_open scope e h.0
-    statement_open (for_loop f a b s) h = both M (integer_code a) _ (integer_open scope a h.0) (integer_open scope b h.1)
-    statement_open (exit at n e) h = condition_open scope e h
-    statement_open (procedure_call at c) h = both M (into_code c.into) _ (into_open scope c.into h.4) (arguments_open scope 0 c.arguments h.3)
-    statement_open (declare_object at n es) h = components_open scope es own_number h.1
-    statement_open (return_value at e) h = value_open scope e h
-    statement_open (own_entry_call at es form) h = called_open scope es form h.0 h.1
-    statement_open (operation_call at v c) h = both M (into_code c.into) _ (into_open scope c.into h.1.4) (arguments_open scope 0 c.arguments h.1.3)
-    statement_open (entry_call at c p q) h = call_open scope c.callee c.arguments c.form h.0.1 h.0.2 h.0.3
-    statement_open (delay at e) h = delay_open scope e h
+    statement_open (declare at up_to e) h = value_open plan scope e h
+    statement_open (assign at r e) h = both M (reference_code r) _ (reference_open plan scope r h.0) (value_open plan scope e h.1)
+    statement_open (put at t) h = text_open plan scope t h
+    statement_open (if_then at e a p) h = condition_open plan scope e h.0
+    statement_open (while_loop at e a) h = condition_open plan scope e h.0
+    statement_open (for_loop f a b s) h = both M (integer_code a) _ (integer_open plan scope a h.0) (integer_open plan scope b h.1)
+    statement_open (exit at n e) h = condition_open plan scope e h
+    statement_open (procedure_call at c) h = both M (into_code c.into) _ (into_open plan scope c.into h.4) (arguments_open plan scope 0 c.arguments h.3)
+    statement_open (declare_object at n es) h = components_open plan scope es own_number h.1
+    statement_open (return_value at e) h = value_open plan scope e h
+    statement_open (own_entry_call at es form) h = called_open plan scope es form h.0 h.1
+    statement_open (operation_call at v c) h = both M (into_code c.into) _ (into_open plan scope c.into h.1.4) (arguments_open plan scope 0 c.arguments h.1.3)
+    statement_open (entry_call at c p q) h = call_open plan scope c.callee c.arguments c.form h.0.1 h.0.2 h.0.3
+    statement_open (delay at e) h = delay_open plan scope e h
     statement_open (select at offered p) h = both M (guards_code 1 offered) _ (guards_open 1 offered h.0) (tt, delays_open 1 offered h.0)
-    statement_open (abort at ts) h = tasks_open scope ts h
-    statement_open (requeue at r) h = requeue_open scope r.callee h.1
+    statement_open (abort at ts) h = tasks_open plan scope ts h
+    statement_open (requeue at r) h = requeue_open plan scope r.callee h.1
     statement_open s h = tt
 
   pub names_open : (plan : Plan) (entries : List Entry) (n : ℕ) (s : Statement) → length scope ≡ n → StatementScoped plan entries s scope → StepOpen n (does s)

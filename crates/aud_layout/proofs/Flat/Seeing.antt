@@ -5,14 +5,16 @@ use Rattle.aud_text.specs.declared.place.Pos.{Pos}
 use Rattle.aud_typed.specs.Tree.{Statement, sequence, plain_loop, Part, nothing, some, Handlers, no_handlers, handler, Body, body, Doing, without_do, with_do, Alternatives, no_alternatives, accepting, delaying, terminating, Program}
 use Rattle.aud_meaning.specs.declared.state.Construct.{Construct}
 use Rattle.aud_meaning.specs.declared.state.Construct.TheVariants as construct
+use Rattle.aud_meaning.specs.Statements.{region_of}
 use Rattle.aud_code.specs.Places.{Way}
-use Rattle.aud_code.specs.Seen.{Fewer, EachSame, BodiesSee, WithinSees, OutSees, GuardsSee}
+use Rattle.aud_code.specs.Seen.{Fewer, EachSame, DoingSees, EitherSee, WithinSees, OutSees, GuardsSee}
 use Rattle.aud_layout.specs.Layout.{Line, Around, one_more, in_loop, in_for, in_call, around_out, ways_count, statement_size, part_size, handlers_size, doing_size, main_size, end_place, stubs, stub_ways, guards_of, guard_line, end_line, part_place, doing_place, parts_from, bodies_from, statement_code, part_code, handlers_code, body_code, doing_code, offered_code, code_of}
 use Rattle.aud_layout.specs.Assembly.{instructions_by, offset, guard_moved, within_moved}
 use Rattle.aud_layout.specs.Opened.{opened_in, IsBefore}
 use Rattle.aud_layout.specs.Shows.{HasAt}
 use Rattle.aud_layout.proofs.Standing.Places.{has_front, has_back, has_tail, length-statement, length-part, length-handlers, length-doing}
 use Rattle.aud_layout.proofs.Flat.Numbers.{same_there, one_there, one_out, out_same, out_more}
+use Rattle.aud_layout.proofs.Flat.Opening.{EachDoes}
 
 pub before_later : (w : Option ℕ) (at to : ℕ) → at ≤ to → IsBefore w at → IsBefore w to
 before_later None at to h k = tt
@@ -156,10 +158,14 @@ module _ (program : Program) (tasks seen : List ℕ) (base : ℕ) where
 
   -- What an accept does, whose step stands at the place opener, where n are open.
 
-  pub doing_begins : (d : Doing) (opener at next out n : ℕ) → Stands at (doing_code d opener at next out) → opener < at → slice_get seen (F opener) ≡ Some n → Fewer seen 0 n (F next) → Fewer seen 0 n (F (doing_place d at next)) ⊎ Fewer seen 0 (suc n) (F (doing_place d at next))
-  doing_begins without_do opener at next out n s before own k = inl k
+  pub doing_begins : (d : Doing) (opener at next out n : ℕ) → Stands at (doing_code d opener at next out) → opener < at → slice_get seen (F opener) ≡ Some n → Fewer seen 0 n (F next) → DoingSees seen (region_of d) n (F (doing_place d at next))
+  doing_begins without_do opener at next out n s before own k = k
   doing_begins (with_do m b) opener at next out n s before own k =
-      inr (same_there seen (F at) (suc n) (body_begins construct.Accept b at next out (in_call (Some opener) (end_place b at 1)) (suc n) s (here_inside opener at n before own)))
+      same_there seen (F at) (suc n) (body_begins construct.Accept b at next out (in_call (Some opener) (end_place b at 1)) (suc n) s (here_inside opener at n before own))
+
+  is_either : (region : Option ℕ) (n p : ℕ) → DoingSees seen region n p → Fewer seen 0 n p ⊎ Fewer seen 0 (suc n) p
+  is_either None n p h = inl h
+  is_either (Some region) n p h = inr h
 
   -- of a select, what follows it, and the other alternatives
   pub record OfferStands (d : Doing) (p : Part) (more : Alternatives) (opener at next : ℕ) (a : Around) : Type 0 where
@@ -183,25 +189,28 @@ module _ (program : Program) (tasks seen : List ℕ) (base : ℕ) where
   -- what follows the alternatives of a select, and what their accepts do
   pub record OffersBegin (o : Alternatives) (at next : ℕ) (a : Around) (n : ℕ) : Type 0 where
     pub parts : EachSame seen n (map F (parts_from o at next (ways_count a)))
-    pub bodies : BodiesSee seen n (map F (bodies_from o at next (ways_count a)))
+    pub bodies : EitherSee seen n (map F (bodies_from o at next (ways_count a)))
+    pub does : EachDoes F (λ region p. DoingSees seen region n p) o at next (ways_count a)
 
   pub offers_begin : (o : Alternatives) (opener at next : ℕ) (a : Around) (n : ℕ) → Stands at (offered_code o opener at next a) → Here a.within at n → opener < at → slice_get seen (F opener) ≡ Some n → Fewer seen 0 n (F next) → OffersBegin o at next a n
-  offers_begin no_alternatives opener at next a n s here before own k = record { parts = tt; bodies = tt }
+  offers_begin no_alternatives opener at next a n s here before own k = record { parts = tt; bodies = tt; does = tt }
   offers_begin (accepting g pos m d p more) opener at next a n s here before own k =
       let after = at + doing_size d in
       let later = after + part_size p (ways_count a) in
       let it = offer_stands d p more opener at next a s in
       let to = part_begins p after next a n it.part (here_on a.within at after n (omega arith) here) k in
       let rest = offers_begin more opener later next a n it.others (here_on a.within at later n (omega arith) here) (omega (arith, before)) own k in
-      record { parts = (to, rest.parts); bodies = (doing_begins d opener at (part_place p after next) a.out n it.doing before own to, rest.bodies) }
+      let place = doing_place d at (part_place p after next) in
+      let does = doing_begins d opener at (part_place p after next) a.out n it.doing before own to in
+      record { parts = (to, rest.parts); bodies = (is_either (region_of d) n (F place) does, rest.bodies); does = (does, rest.does) }
   offers_begin (delaying g x p more) opener at next a n s here before own k =
       let later = at + part_size p (ways_count a) in
       let to = part_begins p at next a n (front _ _ at s) here k in
       let rest = offers_begin more opener later next a n (back _ _ at (part_size p (ways_count a)) (length-part p at next a) s) (here_on a.within at later n (omega arith) here) (omega (arith, before)) own k in
-      record { parts = (to, rest.parts); bodies = (inl to, rest.bodies) }
+      record { parts = (to, rest.parts); bodies = (inl to, rest.bodies); does = rest.does }
   offers_begin (terminating g more) opener at next a n s here before own k =
       let rest = offers_begin more opener at next a n s here before own k in
-      record { parts = (k, rest.parts); bodies = (inl k, rest.bodies) }
+      record { parts = (k, rest.parts); bodies = (inl k, rest.bodies); does = rest.does }
 
   -- What surrounds a statement: where ways lead out of it, and where exceptions go.
 

@@ -12,8 +12,8 @@ use Rattle.aud_meaning.specs.Items.{no_body}
 use Rattle.aud_meaning.specs.Parts.{no_unit, unit_of}
 use Rattle.aud_code.specs.Instruction.{Instruction, Load, LoadElement, Count, Find, FindElement, BeginObject}
 use Rattle.aud_code.specs.Flat.{EndLine, FlatLine, instructs, end, start_at}
-use Rattle.aud_code.specs.Frames.{found_from, found}
-use Rattle.aud_code.specs.Seen.{ArrayOpen, BarriersSee, NamesOpen, with_own, open_with, Fewer, LineSees, PlaceSees}
+use Rattle.aud_code.specs.Frames.{found_from, found, OpensWith}
+use Rattle.aud_code.specs.Seen.{ArrayOpen, BarriersSee, NamesOpen, with_own, open_with, Fewer, OpenedSees, StepSees, LineSees, PlaceSees}
 use Rattle.aud_code.specs.Sound.{Counts, no_counts}
 use Rattle.aud_code.specs.Tabled.{behind, behind_line, table_from, table_of}
 use Rattle.aud_scoped.specs.Declares.{BodyDeclares, BodiesDeclare}
@@ -27,6 +27,7 @@ use Rattle.aud_layout.proofs.Standing.Places.{has_front, has_back, has_tail, len
 use Rattle.aud_layout.proofs.Flat.Assembly.{from_step, its_length, length_assembled, offset_zero}
 use Rattle.aud_layout.proofs.Flat.FramesLaw.{whole}
 use Rattle.aud_layout.proofs.Flat.Numbers.{is_written, same_there, AllOpen, StepOpen, condition_open}
+use Rattle.aud_layout.proofs.Flat.Opening.{all_there as opened_there}
 use Rattle.aud_layout.proofs.Flat.Seeing.{LineCounts, EachCounts, Stands, Here, InsideSees, body_begins, body_ends}
 use Rattle.aud_layout.proofs.Flat.SeeingStatements.{LineSeen, EachSeen, one_and, joined, body_sees}
 
@@ -200,11 +201,13 @@ module _ (program : Program) (seen : List ℕ) where
       sym (get_dropped O (G at) p) ∙ (ap (λ cs. slice_get cs p) table.1 ∙ ap (λ ls. slice_get (table_from table.0 ls) p) (step_there G L at l rest e)) in
       let names : (i : Instruction) → slice_get is p ≡ Some i → NamesOpen i (open_with (slice_get O place) x.frames) = λ i o.
       subst (λ k. NamesOpen i (open_with k x.frames)) (sym operands) (step_sees l.what (end_line G l) (assembled_from G rest) table.0 x.frames x.names p i o) in
+      let opens : (i : Instruction) → slice_get is p ≡ Some i → OpensWith i (λ a. StepSees seen (found X place) x.frames a) = λ i o.
+      subst (λ (k : Option EndLine). OpensWith i (λ a. StepSees seen k x.frames a)) (sym (found_there at l rest e p (omega (arith, h)))) (opened_there (λ a. OpenedSees seen (end_line G l).last (end_line G l).bodies x.frames a) is p i x.opens o) in
       let on : p < length is → Fewer seen 0 x.frames (suc place) = λ lt.
       let same : G at + suc p ≡ suc place = omega arith in
       subst (λ n. Fewer seen 0 x.frames n) same (same_there seen (G at + suc p) x.frames (x.written (suc p) (omega (arith, lt)))) in
       is_written (slice_get seen place) x.frames (LineSees (flat_program program) O T B seen (slice_get X place) place) (x.written p (omega (arith, h)))
-      (subst Q (sym there) (found_in_step is (end_line G l) (assembled_from G rest) p Q (omega (arith, h)) (λ i o lt. (names i o, on lt)) (x.within, x.last)))
+      (subst Q (sym there) (found_in_step is (end_line G l) (assembled_from G rest) p Q (omega (arith, h)) (λ i o lt. (names i o, (on lt, opens i o))) (x.within, x.last)))
 
   places_from : (ls : List Line) (at : ℕ) → HasAt L at ls → EachSeen program seen at ls → (p : ℕ) → p < length (assembled_from G ls) → PlaceSees (flat_program program) O T B seen (G at + p)
   places_from [] at h s p lt = absurd (omega (arith, lt))
@@ -307,7 +310,7 @@ barriers_open plan entries levels [] [] h = tt
 barriers_open plan entries levels [] (b ∷ bs) h = absurd h
 barriers_open plan entries levels (e ∷ es) [] h = absurd h
 barriers_open plan entries levels (e ∷ es) (b ∷ bs) h =
-    (subst (λ n. AllOpen n (condition_code b)) (sym (levels e.unit)) (condition_open (entry_of entries e.unit).outer b h.0), barriers_open plan entries levels es bs h.1)
+    (subst (λ n. AllOpen n (condition_code b)) (sym (levels e.unit)) (condition_open plan (entry_of entries e.unit).outer b h.0), barriers_open plan entries levels es bs h.1)
 
 pub code_is_seen : SeenTabledLaw
 code_is_seen program seen scoped declares counts =

@@ -7,21 +7,24 @@ use Rattle.aud_typed.specs.Tree.{Statement, sequence, declare, declare_tasks, if
 use Rattle.aud_typed.specs.Why.Scoped.{Elaborated, Scope, scope_after, IsElaborated, CalleeScoped, BodyAround, entry_unit, no_entry_plan, all_formals, all_of_table, Entry, entry_of, no_task, task_of, table, CreatedScoped, AllCreatedScoped, StatementScoped, PartScoped, DoingScoped, AlternativesScoped, HandlersScoped, BodyScoped, none_yet}
 use Rattle.aud_meaning.specs.Parts as parts
 use Rattle.aud_meaning.specs.declared.state.Construct.{Construct}
+use Rattle.aud_meaning.specs.declared.state.OpenAccept.{OpenAccept}
 use Rattle.aud_meaning.specs.declared.state.Construct.TheVariants as construct
 use Rattle.aud_code.specs.Places.{Way}
-use Rattle.aud_code.specs.Flat.{start_at}
-use Rattle.aud_code.specs.Frames.{found, opener, Found}
-use Rattle.aud_code.specs.Seen.{inside, Fewer, WaysSee, BodiesSee, WaySees, WithinSees, OutSees, BodySees, BarrierSees, EndingSees, LastSees}
+use Rattle.aud_code.specs.Instruction.{Ending, Accept, Select}
+use Rattle.aud_code.specs.Flat.{Does, start_at}
+use Rattle.aud_code.specs.Frames.{found, opener, Found, EachOpened}
+use Rattle.aud_code.specs.Seen.{inside, Fewer, WaysSee, BodiesSee, DoingSees, OpenedSees, WaySees, WithinSees, OutSees, BodySees, BarrierSees, EndingSees, LastSees}
 use Rattle.aud_scoped.specs.Declares.{StatementDeclares, PartDeclares, HandlersDeclare, BodyDeclares, DoingDeclares, OfferedDeclare}
 use Rattle.aud_layout.specs.Layout.{one_line, Line, Around, line, in_loop, in_for, in_block, in_call, around_out, ways_count, statement_size, part_size, handlers_size, body_size, doing_size, offered_size, main_size, end_place, stubs, stubs_of, end_line, part_place, doing_place, parts_from, bodies_from, statement_code, part_code, handlers_code, body_code, doing_code, offered_code, code_of}
 use Rattle.aud_layout.specs.Assembly as assembly
 use Rattle.aud_layout.specs.Assembly.{instructions_by, offset, last_by, way_moved, within_moved, flat_program}
-use Rattle.aud_layout.specs.Instructions.{call_end, requeue_end, ending_of}
+use Rattle.aud_layout.specs.Instructions.{call_end, requeue_end, instructions_of, ending_of}
 use Rattle.aud_layout.specs.Opened.{body_of, task_bodies, frames_before, barrier_frames}
 use Rattle.aud_layout.proofs.Standing.Places.{length-statement, length-part, length-handlers, length-body, length-doing, length-offered}
 use Rattle.aud_layout.proofs.Standing.Sizes.{count-block, last_is}
 use Rattle.aud_layout.proofs.Flat.Frames.{found_is}
 use Rattle.aud_layout.proofs.Flat.Numbers.{is_written, same_there, one_out, after_long, one_longer, open_long, around_long, variable_open, StepOpen, names_open}
+use Rattle.aud_layout.proofs.Flat.Opening.{NoAccepts, call_has_none, requeue_has_none, each_any, select_opened}
 use Rattle.aud_layout.proofs.Flat.Seeing.{lines, Stands, front, back, tail, stands_moved, Here, here_on, here_inside, all_written, first_written, statement_begins, part_begins, guards_see, body_stands, body_begins, body_ends, doing_begins, offer_stands, offers_begin, WaysOut, AroundSees, InsideSees, within_inside, exit_sees, loop_sees, for_sees, stubs_see}
 
 unit_of : (ts : List TaskPlan) (n : ℕ) → slice_index_or (map body_of ts) n 0 ≡ (slice_index_or ts n no_task).unit
@@ -50,6 +53,7 @@ module _ (program : Program) (seen : List ℕ) where
     pub frames : ℕ
     pub written : (j : ℕ) → j ≤ length (instructions_by l.what) → slice_get seen (offset (code_of program).lines at + j) ≡ Some frames
     pub names : StepOpen frames l.what
+    pub opens : EachOpened (instructions_by l.what) (λ a. OpenedSees seen (last_by (offset (code_of program).lines) l.what) (map (offset (code_of program).lines) l.bodies) frames a)
     pub within : WithinSees seen (within_moved (offset (code_of program).lines) l.within) frames
     pub last : LastSees (flat_program program) (task_bodies program) (barrier_frames program) seen (last_by (offset (code_of program).lines) l.what) frames (assembly.end_line (offset (code_of program).lines) l)
 
@@ -116,12 +120,12 @@ module _ (program : Program) (seen : List ℕ) (base : ℕ) (entries : List Entr
       let u = entry_unit program.plan entry in
       is_written (slice_get B entry) (parts.unit_of program.plan u).level (λ k. k ≤ suc n) (frames_there program.plan program.plan.entries entry there) (omega (arith, long, e, levels u))
 
-  call_sees : (c : Callee) (entry : ℕ) (form : CallForm) (n : ℕ) (scope : Scope) → length scope ≡ n → entry < length program.plan.entries → CalleeScoped c scope → BodyAround program.plan entries c entry scope → EndingSees (flat_program program) T B seen (call_end c entry form) n
+  call_sees : (c : Callee) (entry : ℕ) (form : CallForm) (n : ℕ) (scope : Scope) → length scope ≡ n → entry < length program.plan.entries → CalleeScoped program.plan c scope → BodyAround program.plan entries c entry scope → EndingSees (flat_program program) T B seen (call_end c entry form) n
   call_sees (of_task t) entry form n scope e there h around = tt
   call_sees (of_object v) entry form n scope e there h around =
       (object_open v n scope e h, asked_around entry n scope e there (around_long (entry_of entries (entry_unit program.plan entry)).outer scope around.1))
 
-  requeue_sees : (c : Callee) (r : tree.Requeue) (n : ℕ) (scope : Scope) → length scope ≡ n → r.entry < length program.plan.entries → CalleeScoped c scope → BodyAround program.plan entries c r.entry scope → EndingSees (flat_program program) T B seen (requeue_end c r) n
+  requeue_sees : (c : Callee) (r : tree.Requeue) (n : ℕ) (scope : Scope) → length scope ≡ n → r.entry < length program.plan.entries → CalleeScoped program.plan c scope → BodyAround program.plan entries c r.entry scope → EndingSees (flat_program program) T B seen (requeue_end c r) n
   requeue_sees (of_task t) r n scope e there h around = tt
   requeue_sees (of_object v) r n scope e there h around =
       (object_open v n scope e h, asked_around r.entry n scope e there (around_long (entry_of entries (entry_unit program.plan r.entry)).outer scope around.1))
@@ -138,23 +142,35 @@ module _ (program : Program) (seen : List ℕ) (base : ℕ) (entries : List Entr
   ending_sees s n declares scope e sc dc cr = tt
 
   -- a statement's own line, with its ways and what accepts do
-  line_with : (s : Statement) (ways bodies : List ℕ) (leads : Option Way) (a : Around) (b : List Line) (at n : ℕ) (declares : Bool) (scope : Scope) → length scope ≡ n → Scoped s scope → StatementDeclares declares s → Creates declares s n → At at (line s ways bodies leads a ∷ b) → Is a.within at n → WaysSee seen 0 n (inside (ending_of s) n) (map G ways) → BodiesSee seen n (map G bodies) → WaySees seen n (way_moved G leads) → OutSees seen (K a.within) n (G a.out) → LineSeen program seen at (line s ways bodies leads a)
-  line_with s ways bodies leads a b at n declares scope e sc dc cr st here to bs out o = record {
+  line_with : (s : Statement) (ways bodies : List ℕ) (leads : Option Way) (a : Around) (b : List Line) (at n : ℕ) (declares : Bool) (scope : Scope) → length scope ≡ n → Scoped s scope → StatementDeclares declares s → Creates declares s n → At at (line s ways bodies leads a ∷ b) → Is a.within at n → WaysSee seen 0 n (inside (ending_of s) n) (map G ways) → BodiesSee seen (ending_of s) n (map G bodies) → EachOpened (instructions_of s) (λ x. OpenedSees seen (Does (ending_of s)) (map G bodies) n x) → WaySees seen n (way_moved G leads) → OutSees seen (K a.within) n (G a.out) → LineSeen program seen at (line s ways bodies leads a)
+  line_with s ways bodies leads a b at n declares scope e sc dc cr st here to bs opened out o = record {
     frames = n;
     written = all_written program T seen base _ b at n st here;
     names = names_open scope program.plan entries n s e sc;
+    opens = opened;
     within = here.within;
     last = (ending_sees s n declares scope e sc dc cr, (to, (bs, (out, o))));
   }
 
-  own_line : (s : Statement) (ways : List ℕ) (leads : Option Way) (a : Around) (b : List Line) (at n : ℕ) (declares : Bool) (scope : Scope) → length scope ≡ n → Scoped s scope → StatementDeclares declares s → Creates declares s n → At at (line s ways [] leads a ∷ b) → Is a.within at n → WaysSee seen 0 n (inside (ending_of s) n) (map G ways) → WaySees seen n (way_moved G leads) → OutSees seen (K a.within) n (G a.out) → LineSeen program seen at (line s ways [] leads a)
-  own_line s ways leads a b at n declares scope e sc dc cr st here to out o = line_with s ways [] leads a b at n declares scope e sc dc cr st here to tt out o
+  no_bodies : (e : Ending) (n : ℕ) → NoAccepts e → BodiesSee seen e n []
+  no_bodies (Accept entry region) n h = absurd h
+  no_bodies (Select has_else) n h = absurd h
+  no_bodies e n h = tt
+
+  none_opened : (e : Ending) (n : ℕ) (x : OpenAccept) → NoAccepts e → OpenedSees seen (Does e) [] n x
+  none_opened (Accept entry region) n x h = absurd h
+  none_opened (Select has_else) n x h = absurd h
+  none_opened e n x h = tt
+
+  own_line : (s : Statement) (ways : List ℕ) (leads : Option Way) (a : Around) (b : List Line) (at n : ℕ) (declares : Bool) (scope : Scope) → length scope ≡ n → Scoped s scope → StatementDeclares declares s → Creates declares s n → At at (line s ways [] leads a ∷ b) → Is a.within at n → WaysSee seen 0 n (inside (ending_of s) n) (map G ways) → WaySees seen n (way_moved G leads) → OutSees seen (K a.within) n (G a.out) → NoAccepts (ending_of s) → LineSeen program seen at (line s ways [] leads a)
+  own_line s ways leads a b at n declares scope e sc dc cr st here to out o none =
+      line_with s ways [] leads a b at n declares scope e sc dc cr st here to (no_bodies (ending_of s) n none) (each_any (λ x. OpenedSees seen (Does (ending_of s)) [] n x) (instructions_of s) (λ x. none_opened (ending_of s) n x none)) out o
 
   -- the ways out of a block
   stub_lines : (ws : List Way) (end : Pos) (w at place n : ℕ) → WaysOut program T seen base n ws → At at (stubs ws end (Some w) place) → Is (Some w) at (suc n) → EachSeen program seen at (stubs ws end (Some w) place)
   stub_lines [] end w at place n k st here = no_lines
   stub_lines (x ∷ ws) end w at place n k st here =
-      one_and (record { frames = suc n; written = all_written program T seen base _ _ at (suc n) st here; names = tt; within = here.within; last = one_out seen x.loops n (G x.to) k.0 })
+      one_and (record { frames = suc n; written = all_written program T seen base _ _ at (suc n) st here; names = tt; opens = tt; within = here.within; last = one_out seen x.loops n (G x.to) k.0 })
       (stub_lines ws end w (suc at) (suc place) n k.1 (tail program T seen base _ _ at st) (here_on program T seen base (Some w) at (suc at) (suc n) (omega arith) here))
 
   and_back : (n : ℕ) (ws : List Way) (x : Way) → WaysOut program T seen base n ws → Fewer seen x.loops n (G x.to) → WaysOut program T seen base n (ws ++ x ∷ [])
@@ -202,7 +218,7 @@ module _ (program : Program) (seen : List ℕ) (base : ℕ) (entries : List Entr
         statement_sees x at at (in_loop next a) n false scope e sc dc (none_created x n) st here again (loop_sees program T seen base next a n k i)
     statement_sees (declare pos m x) at next a n declares scope e sc dc cr st here k i =
         let again = same_there seen (G at) n (first_written program T seen base _ _ at n st here) in
-        one_and (own_line (declare pos m x) (next ∷ at ∷ []) None a [] at n declares scope e sc dc cr st here (k, (again, tt)) tt i.out) no_lines
+        one_and (own_line (declare pos m x) (next ∷ at ∷ []) None a [] at n declares scope e sc dc cr st here (k, (again, tt)) tt i.out tt) no_lines
     statement_sees (if_then pos c x p) at next a n declares scope e sc dc cr st here k i =
         let size = statement_size x (ways_count a) in
         let second = suc at + size in
@@ -213,7 +229,7 @@ module _ (program : Program) (seen : List ℕ) (base : ℕ) (entries : List Entr
         let there = here_on program T seen base a.within at (suc at) n (omega arith) here in
         let behind = here_on program T seen base a.within at second n (omega arith) here in
         let to : WaysSee seen 0 n n (G (part_place p second next) ∷ G (suc at) ∷ []) = (part_begins program T seen base p second next a n else behind k, (same_there seen (G (suc at)) n (statement_begins program T seen base x (suc at) next a n then there), tt)) in
-        one_and (own_line (if_then pos c x p) (part_place p second next ∷ suc at ∷ []) None a _ at n declares scope e sc dc cr st here to tt i.out)
+        one_and (own_line (if_then pos c x p) (part_place p second next ∷ suc at ∷ []) None a _ at n declares scope e sc dc cr st here to tt i.out tt)
         (joined program seen _ _ (suc at) size long
         (statement_sees x (suc at) next a n false scope e sc.1 dc.0 (none_created x n) then there k i)
         (part_sees p second next a n false scope e sc.2 dc.1 (λ t. absurd cc) else behind k i))
@@ -222,7 +238,7 @@ module _ (program : Program) (seen : List ℕ) (base : ℕ) (entries : List Entr
         let there = here_on program T seen base a.within at (suc at) n (omega arith) here in
         let again = same_there seen (G at) n (first_written program T seen base _ _ at n st here) in
         let to : WaysSee seen 0 n n (G next ∷ G (suc at) ∷ []) = (k, (same_there seen (G (suc at)) n (statement_begins program T seen base x (suc at) at (in_loop next a) n rest there), tt)) in
-        one_and (own_line (while_loop pos c x) (next ∷ suc at ∷ []) None a _ at n declares scope e sc dc cr st here to tt i.out)
+        one_and (own_line (while_loop pos c x) (next ∷ suc at ∷ []) None a _ at n declares scope e sc dc cr st here to tt i.out tt)
         (statement_sees x (suc at) at (in_loop next a) n false scope e sc.1 dc (none_created x n) rest there again (loop_sees program T seen base next a n k i))
     statement_sees (for_loop f x y z) at next a n declares scope e sc dc cr st here k i =
         let inner = in_for at next a in
@@ -233,8 +249,8 @@ module _ (program : Program) (seen : List ℕ) (base : ℕ) (entries : List Entr
         let further = here_inside program T seen base at (suc (suc at)) n (omega arith) own in
         let inside = same_there seen (G (suc (suc at))) (suc n) (statement_begins program T seen base z (suc (suc at)) (suc at) inner (suc n) rest further) in
         let again = same_there seen (G (suc at)) (suc n) (first_written program T seen base _ _ (suc at) (suc n) after there) in
-        one_and (own_line (for_loop f x y z) (next ∷ suc (suc at) ∷ []) None a _ at n declares scope e sc dc cr st here (k, (inside, tt)) tt i.out)
-        (one_and (record { frames = suc n; written = all_written program T seen base _ _ (suc at) (suc n) after there; names = tt; within = there.within; last = (one_out seen 0 n (G next) k, (inside, tt)) })
+        one_and (own_line (for_loop f x y z) (next ∷ suc (suc at) ∷ []) None a _ at n declares scope e sc dc cr st here (k, (inside, tt)) tt i.out tt)
+        (one_and (record { frames = suc n; written = all_written program T seen base _ _ (suc at) (suc n) after there; names = tt; opens = tt; within = there.within; last = (one_out seen 0 n (G next) k, (inside, tt)) })
         (statement_sees z (suc (suc at)) (suc at) inner (suc n) false (scope ++ all_of_table (table program.plan f.region) ∷ []) (one_longer scope (all_of_table (table program.plan f.region)) n e) sc.3 dc (none_created z (suc n)) rest further again (for_sees program T seen base at next a n k i)))
     statement_sees (block pos m b) at next a n declares scope e sc dc cr st here k i =
         let w = ways_count a in
@@ -253,16 +269,16 @@ module _ (program : Program) (seen : List ℕ) (base : ℕ) (entries : List Entr
         let last = here_inside program T seen base at (suc end) n (omega (arith, same)) own in
         let around = block_sees b a at end n stubs_at last in
         let ends : EndSees construct.Block next a.out (Some at) (suc n) = λ p. (k, found_is (lines program T seen base) at _ _ (λ o. OutSees seen o.within n (G a.out)) st.has i.out) in
-        one_and (own_line (block pos m b) (next ∷ suc at ∷ []) None a _ at n declares scope e sc dc cr st here (k, (same_there seen (G (suc at)) (suc n) (body_begins program T seen base construct.Block b (suc at) next a.out inner (suc n) within there), tt)) tt i.out)
+        one_and (own_line (block pos m b) (next ∷ suc at ∷ []) None a _ at n declares scope e sc dc cr st here (k, (same_there seen (G (suc at)) (suc n) (body_begins program T seen base construct.Block b (suc at) next a.out inner (suc n) within there), tt)) tt i.out tt)
         (joined program seen _ _ (suc at) size long
         (body_sees construct.Block b (suc at) next a.out inner n none_yet (table program.plan m) scope e sc dc within there around ends)
         (all_stub_lines b a at (suc at + size) (suc end) n i stubs_there behind))
     statement_sees (exit pos m c) at next a n declares scope e sc dc cr st here k i =
-        one_and (own_line (exit pos m c) (next ∷ []) (Some (slice_index_or a.exits m (record { to = next; loops = 0 }))) a [] at n declares scope e sc dc cr st here (k, tt) (exit_sees program T seen base a.exits m next n i.exits k) i.out) no_lines
+        one_and (own_line (exit pos m c) (next ∷ []) (Some (slice_index_or a.exits m (record { to = next; loops = 0 }))) a [] at n declares scope e sc dc cr st here (k, tt) (exit_sees program T seen base a.exits m next n i.exits k) i.out tt) no_lines
     statement_sees (return pos) at next a n declares scope e sc dc cr st here k i =
-        one_and (own_line (return pos) (next ∷ []) (Some a.back) a [] at n declares scope e sc dc cr st here (k, tt) i.back i.out) no_lines
+        one_and (own_line (return pos) (next ∷ []) (Some a.back) a [] at n declares scope e sc dc cr st here (k, tt) i.back i.out tt) no_lines
     statement_sees (return_value pos x) at next a n declares scope e sc dc cr st here k i =
-        one_and (own_line (return_value pos x) (next ∷ []) (Some a.back) a [] at n declares scope e sc dc cr st here (k, tt) i.back i.out) no_lines
+        one_and (own_line (return_value pos x) (next ∷ []) (Some a.back) a [] at n declares scope e sc dc cr st here (k, tt) i.back i.out tt) no_lines
     statement_sees (entry_call pos c p q) at next a n declares scope e sc dc cr st here k i =
         let size = part_size p (ways_count a) in
         let second = suc at + size in
@@ -274,7 +290,7 @@ module _ (program : Program) (seen : List ℕ) (base : ℕ) (entries : List Entr
         let further = here_on program T seen base a.within at second n (omega arith) here in
         let ways : List ℕ = part_place p (suc at) next ∷ part_place q second next ∷ [] in
         let to : WaysSee seen 0 n n (map G ways) = (part_begins program T seen base p (suc at) next a n behind_call there k, (part_begins program T seen base q second next a n otherwise further k, tt)) in
-        one_and (own_line (entry_call pos c p q) ways None a _ at n declares scope e sc dc cr st here (subst (λ m. WaysSee seen 0 n m (map G ways)) (sym (call_inside c.callee c.entry c.form n)) to) tt i.out)
+        one_and (own_line (entry_call pos c p q) ways None a _ at n declares scope e sc dc cr st here (subst (λ m. WaysSee seen 0 n m (map G ways)) (sym (call_inside c.callee c.entry c.form n)) to) tt i.out (call_has_none c.callee c.entry c.form))
         (joined program seen _ _ (suc at) size long
         (part_sees p (suc at) next a n false scope e sc.1 dc.0 (λ t. absurd cc) behind_call there k i)
         (part_sees q second next a n false scope e sc.2 dc.1 (λ t. absurd cc) otherwise further k i))
@@ -282,7 +298,7 @@ module _ (program : Program) (seen : List ℕ) (base : ℕ) (entries : List Entr
         let rest = tail program T seen base _ _ at st in
         let o = opens (accept pos m d) (next ∷ []) (doing_place d (suc at) next ∷ []) None a _ at n st here i in
         let does = doing_begins program T seen base d at (suc at) next a.out n rest (omega arith) o.own k in
-        one_and (line_with (accept pos m d) (next ∷ []) (doing_place d (suc at) next ∷ []) None a _ at n declares scope e sc dc cr st here (k, tt) (does, tt) tt i.out)
+        one_and (line_with (accept pos m d) (next ∷ []) (doing_place d (suc at) next ∷ []) None a _ at n declares scope e sc dc cr st here (k, tt) (does, tt) tt tt i.out)
         (doing_sees d at (suc at) next a.out n scope e sc.1 dc (omega arith) rest k o)
     statement_sees (select pos offered p) at next a n declares scope e sc dc cr st here k i =
         let w = ways_count a in
@@ -298,16 +314,17 @@ module _ (program : Program) (seen : List ℕ) (base : ℕ) (entries : List Entr
         let bodies : List ℕ = at ∷ bodies_from offered (suc at) next w in
         let o = opens (select pos offered p) ways bodies None a _ at n st here i in
         let places = offers_begin program T seen base offered at (suc at) next a n alternatives there (omega arith) o.own k in
-        one_and (line_with (select pos offered p) ways bodies None a _ at n declares scope e sc dc cr st here (part_begins program T seen base p second next a n else further k, places.parts) (inl (same_there seen (G at) n o.own), places.bodies) tt i.out)
+        let opened = select_opened G (λ region x. DoingSees seen region n x) offered (G at) (suc at) next w places.does in
+        one_and (line_with (select pos offered p) ways bodies None a _ at n declares scope e sc dc cr st here (part_begins program T seen base p second next a n else further k, places.parts) (inl (same_there seen (G at) n o.own), places.bodies) opened tt i.out)
         (joined program seen _ _ (suc at) size long
         (offered_see offered at (suc at) next a n scope e sc.0 dc.0 (omega arith) alternatives there k i o)
         (part_sees p second next a n false scope e sc.1 dc.1 (λ t. absurd cc) else further k i))
     statement_sees (requeue pos r) at next a n declares scope e sc dc cr st here k i =
         let ways : List ℕ = next ∷ [] in
         let to : WaysSee seen 0 n n (map G ways) = (k, tt) in
-        one_and (own_line (requeue pos r) ways (Some a.back) a [] at n declares scope e sc dc cr st here (subst (λ m. WaysSee seen 0 n m (map G ways)) (sym (requeue_inside r.callee r n)) to) i.back i.out) no_lines
+        one_and (own_line (requeue pos r) ways (Some a.back) a [] at n declares scope e sc dc cr st here (subst (λ m. WaysSee seen 0 n m (map G ways)) (sym (requeue_inside r.callee r n)) to) i.back i.out (requeue_has_none r.callee r)) no_lines
     statement_sees s at next a n declares scope e sc dc cr st here k i =
-        one_and (own_line s (next ∷ []) None a [] at n declares scope e sc dc cr st here (k, tt) tt i.out) no_lines
+        one_and (own_line s (next ∷ []) None a [] at n declares scope e sc dc cr st here (k, tt) tt i.out tt) no_lines
 
     part_sees : (p : Part) (at next : ℕ) (a : Around) (n : ℕ) (declares : Bool) (scope : Scope) → length scope ≡ n → PartScoped program.plan entries p scope → PartDeclares declares p → (declares ≡ true → (begun : Scope) × (length begun ≡ n) × AllCreatedScoped program.plan entries p begun) → At at (part_code p at next a) → Is a.within at n → Fewer seen 0 n (G next) → Around_ a n → EachSeen program seen at (part_code p at next a)
     part_sees nothing at next a n declares scope e sc dc cr st here k i = no_lines
@@ -347,9 +364,9 @@ module _ (program : Program) (seen : List ℕ) (base : ℕ) (entries : List Entr
         let ended = back program T seen base _ _ (suc guard) (handlers_size hs w) (length-handlers hs (suc guard) last (around_out last a)) handled in
         joined program seen _ _ at _ (length-part d at first (around_out last a)) (part_sees d at first (around_out last a) m true (scope ++ begun ∷ []) (one_longer scope begun n e) sc.0 dc.0 (λ t. (scope ++ all ∷ [], full, sc.2)) it.declarations here before out_last)
         (joined program seen _ _ first _ (length-statement s first last (around_out guard a)) (statement_sees s first last (around_out guard a) m false (scope ++ all ∷ []) full sc.3 dc.1.0 (none_created s m) it.statements here_first to_last out_guard)
-        (one_and (record { frames = m; written = all_written program T seen base _ _ guard m it.guarding here_guard; names = tt; within = here_guard.within; last = (guards_see program T seen base hs (suc guard) last (around_out last a) m it.handlers here_handlers, to_last) })
+        (one_and (record { frames = m; written = all_written program T seen base _ _ guard m it.guarding here_guard; names = tt; opens = tt; within = here_guard.within; last = (guards_see program T seen base hs (suc guard) last (around_out last a) m it.handlers here_handlers, to_last) })
         (joined program seen _ _ (suc guard) _ (length-handlers hs (suc guard) last (around_out last a)) (handlers_see hs (suc guard) last (around_out last a) m (scope ++ all ∷ []) full sc.4 dc.1.1 it.handlers here_handlers to_last out_last)
-        (one_and (record { frames = m; written = all_written program T seen base _ _ _ m ended here_end; names = tt; within = here_end.within; last = ends end }) no_lines))))
+        (one_and (record { frames = m; written = all_written program T seen base _ _ _ m ended here_end; names = tt; opens = tt; within = here_end.within; last = ends end }) no_lines))))
 
     -- what an accept does, whose step stands at the place opener
     doing_sees : (d : Doing) (opener at next out n : ℕ) (scope : Scope) → length scope ≡ n → DoingScoped program.plan entries d scope → DoingDeclares d → opener < at → At at (doing_code d opener at next out) → Fewer seen 0 n (G next) → Opens opener n out → EachSeen program seen at (doing_code d opener at next out)

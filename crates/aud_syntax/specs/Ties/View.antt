@@ -213,7 +213,7 @@ plain_choices (choices.Others at) = m.others at
 -- RM 9.6
 abbrev pub plain_delay : Delay → m.Delay
 plain_delay (delay.Seconds at x) = m.delay_real at x
-plain_delay (delay.Duration at e) = m.delay_duration at (plain_expression e)
+plain_delay (delay.Duration at named e) = m.delay_duration at named (plain_expression e)
 
 -- RM 9.8
 abbrev pub plain_names : List name.Name → m.Names

@@ -148,7 +148,7 @@ bare_private (Some xs) = Some (map bare_private_item xs)
 -- RM 9.6
 abbrev pub bare_delay : Delay → Delay
 bare_delay (delay_real at x) = delay_real nowhere (bare_real x)
-bare_delay (delay_duration at e) = delay_duration nowhere (bare_expression e)
+bare_delay (delay_duration at name_at e) = delay_duration nowhere nowhere (bare_expression e)
 
 -- RM 9.8
 abbrev pub bare_names : Names → Names

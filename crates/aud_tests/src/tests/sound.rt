@@ -3,9 +3,11 @@
 
 use aud_code::counts::{Counts, NOTHING};
 use aud_code::instruction::Instruction;
-use aud_code::line::{Among, Barrier, CallKind, Code, EndLine, Ending, ForLoop, Last, Line, Way};
+use aud_code::line::{
+    Among, Barrier, CallKind, Code, EndLine, Ending, ForLoop, Last, Line, Offer, Way,
+};
 use aud_code::sound_code::verify;
-use aud_meaning::state::Construct;
+use aud_meaning::state::{Construct, OpenAccept};
 use aud_text::place::Pos;
 use aud_typed::program::Variable;
 use std::alloc::{AllocError, Global};
@@ -233,5 +235,99 @@ fn leaves_the_frames_that_are_left(rt: HostRuntime) -> Result<(), AllocError> {
     assert!(rt; returns(rt.alloc(), 1, 2)?);
     assert!(rt; !returns(rt.alloc(), 0, 2)?);
     assert!(rt; !returns(rt.alloc(), 1, 1)?);
+    Ok(())
+}
+
+// Behind the steps of an accept, its end, within the step that begins at the first line, and that of the body, at the place `last`.
+fn end_accept(code: &mut Code, last: usize) -> Result<(), AllocError> {
+    let end_of_accept = end(Last::Ends(Construct::Accept, last), last, Some(0));
+    add(code, end_of_accept, NOTHING, 2)?;
+    add(
+        code,
+        end(Last::Ends(Construct::Unit, 0), last, None),
+        NOTHING,
+        1,
+    )
+}
+
+// An accept with the table of its formals, if it has one; what it does begins at a place.
+fn accept(code: &mut Code, region: Option<usize>, body: usize) -> Result<(), AllocError> {
+    let accept = Among::Accept {
+        entry: 0,
+        region,
+        body,
+    };
+    add(code, end(Last::Concerns(accept, 2), 2, None), NOTHING, 1)?;
+    end_accept(code, 2)
+}
+
+fn accepts(alloc: Global, region: Option<usize>, body: usize) -> Result<bool, AllocError> {
+    let mut code = empty(alloc)?;
+    let written = accept(&mut code, region, body);
+    is_sound(alloc, code, written)
+}
+
+// The accept's end is met in its frame, and what is behind it is not.
+#[test]
+fn enters_the_frame_of_an_accept_that_does_something(rt: HostRuntime) -> Result<(), AllocError> {
+    assert!(rt; accepts(rt.alloc(), Some(1), 1)?);
+    assert!(rt; !accepts(rt.alloc(), Some(1), 2)?);
+    assert!(rt; accepts(rt.alloc(), None, 2)?);
+    assert!(rt; !accepts(rt.alloc(), None, 1)?);
+    Ok(())
+}
+
+// The same of a selective accept with one alternative, whose accept is opened with this number.
+fn select(
+    alloc: Global,
+    code: &mut Code,
+    alternative: usize,
+    region: Option<usize>,
+    body: usize,
+) -> Result<(), AllocError> {
+    let opens = Instruction::OpensAccept(OpenAccept {
+        alternative,
+        entry: 0,
+        at: AT,
+        region,
+    });
+    let select = Among::Select {
+        has_else: false,
+        own: 0,
+        offers: Vec::from_array(alloc, [Offer { behind: 5, body }])?,
+    };
+    add(
+        code,
+        Line::Instruction(Instruction::PushTruth(true)),
+        NOTHING,
+        1,
+    )?;
+    add(code, Line::Instruction(opens), TRUTH, 1)?;
+    add(code, Line::Instruction(Instruction::Mark), NOTHING, 1)?;
+    add(code, end(Last::Concerns(select, 5), 5, None), NOTHING, 1)?;
+    end_accept(code, 5)
+}
+
+fn selects(
+    alloc: Global,
+    alternative: usize,
+    region: Option<usize>,
+    body: usize,
+) -> Result<bool, AllocError> {
+    let mut code = empty(alloc)?;
+    let written = select(alloc, &mut code, alternative, region, body);
+    is_sound(alloc, code, written)
+}
+
+#[test]
+fn enters_the_frame_of_an_alternative_that_does_something(
+    rt: HostRuntime,
+) -> Result<(), AllocError> {
+    assert!(rt; selects(rt.alloc(), 1, Some(1), 4)?);
+    assert!(rt; !selects(rt.alloc(), 1, Some(1), 5)?);
+    assert!(rt; selects(rt.alloc(), 1, None, 5)?);
+    assert!(rt; !selects(rt.alloc(), 1, None, 4)?);
+    assert!(rt; !selects(rt.alloc(), 0, Some(1), 4)?);
+    assert!(rt; !selects(rt.alloc(), 2, Some(1), 4)?);
     Ok(())
 }

@@ -1,13 +1,17 @@
--- Each variable that is read or assigned has been elaborated (RM 3.3.1, 8.3), and each table, exception and procedure is there: the
--- items that a typed program names are there. It is not said
--- that a call of an entry has as many arguments as its accepts or its body have formals, nor that the object in a cell is of the
--- declaration that has the operation or entry which is called.
-use Rattle.std.specs.Prelude.{◌≡◌, ℕ, suc, ◌+◌, ◌-◌, max, ◌<◌, ◌≤◌, List, [], ◌∷◌, ◌++◌, length, slice_index_or, Option, None, Some, nat_eq, false}
+-- Each variable that is read or assigned has been elaborated (RM 3.3.1, 8.3), and each number names an item: a table, exception, unit, type
+-- of tasks, object or entry that is there, or a loop around the exit that leaves it. Accepts and calls of tasks name entries of tasks, and
+-- calls of objects entries of objects; each entry stands once, with one type of tasks or one object. That no statement declares tasks is
+-- said beside it (`DeclaresInParts`). It is not said that a type of which no task is created has its body, that a call of an entry has as
+-- many arguments as its accepts or its body have formals, nor that the object in the cell of a call is of the declaration that has the
+-- operation or entry, or that the cell is of that declaration's level.
+use Rattle.std.specs.Prelude.{◌≡◌, ℕ, suc, ◌+◌, ◌-◌, max, ◌<◌, ◌≤◌, List, [], ◌∷◌, ◌++◌, length, slice_index_or, Option, None, Some, nat_eq, Bool, true, false, ◌||◌}
+use Rattle.std.specs.List.{AllByRecursion}
 use Rattle.aud_typed.specs.declared.program.Variable.{Variable}
 use Rattle.aud_typed.specs.declared.program.ArrayAt.{ArrayAt}
 use Rattle.aud_typed.specs.declared.program.Exception.{Exception}
 use Rattle.aud_typed.specs.declared.program.Exception.TheVariants.{Predefined, Declared}
 use Rattle.aud_typed.specs.Tree.{Argument, by_value, by_copy, Calling, UnitPlan, TaskPlan, ObjectPlan, EntryPlan, IntegerExpression, number, variable, element, unary, binary, count, TaskName, single, indexed, DelayExpression, milliseconds, seconds, CallForm, plainly, conditionally, timed, Callee, of_task, of_object, EntryCall, BooleanExpression, truth, stored, negation, relation, comparison, logical, and_then, or_else, callable, terminated, ValueExpression, whole, boolean, Reference, scalar, component, TextExpression, literal, image, image_truth, join, new_line, Tasks, Statement, sequence, declare, declare_array, declare_tasks, declare_object, activated, activate, null, assign, put, if_then, plain_loop, while_loop, for_loop, exit, return, return_value, raising, raising_again, block, procedure_call, own_entry_call, operation_call, entry_call, delay, accept, select, abort, requeue, Requeue, Doing, without_do, with_do, Alternatives, no_alternatives, accepting, delaying, terminating, Part, nothing, some, Handlers, no_handlers, handler, Body, body, Shown, as_whole, as_truth, as_wholes, as_truths, hidden, Named, Plan, Program}
+use Rattle.aud_typed.specs.Why.Numbers.{UnitsNumbers}
 
 -- how many names of an open frame are elaborated, and how many cells they have
 pub record Elaborated : Type 0 where
@@ -33,74 +37,76 @@ IsElaborated v scope = v.index < cells_at v.level scope
 abbrev pub AreElaborated : ArrayAt → Scope → Type 0
 AreElaborated a scope = a.first.index + a.length ≤ cells_at a.first.level scope
 
-abbrev pub IntegerScoped : IntegerExpression → Scope → Type 0
-IntegerScoped (number value) scope = Unit {0}
-IntegerScoped (variable v) scope = IsElaborated v scope
-IntegerScoped (element a index) scope = AreElaborated a scope × IntegerScoped index scope
-IntegerScoped (unary operator x) scope = IntegerScoped x scope
-IntegerScoped (binary operator x y) scope = IntegerScoped x scope × IntegerScoped y scope
-IntegerScoped (count v entry) scope = IsElaborated v scope
+module _ (plan : Plan) where
+  abbrev pub IntegerScoped : IntegerExpression → Scope → Type 0
+  IntegerScoped (number value) scope = Unit {0}
+  IntegerScoped (variable v) scope = IsElaborated v scope
+  IntegerScoped (element a index) scope = AreElaborated a scope × IntegerScoped index scope
+  IntegerScoped (unary operator x) scope = IntegerScoped x scope
+  IntegerScoped (binary operator x y) scope = IntegerScoped x scope × IntegerScoped y scope
+  -- of an entry that is there
+  IntegerScoped (count v entry) scope = IsElaborated v scope × (entry < length plan.entries)
 
-abbrev pub ReferenceScoped : Reference → Scope → Type 0
-ReferenceScoped (scalar v subtype) scope = IsElaborated v scope
-ReferenceScoped (component a index subtype) scope = AreElaborated a scope × IntegerScoped index scope
+  abbrev pub ReferenceScoped : Reference → Scope → Type 0
+  ReferenceScoped (scalar v subtype) scope = IsElaborated v scope
+  ReferenceScoped (component a index subtype) scope = AreElaborated a scope × IntegerScoped index scope
 
-abbrev pub TaskScoped : TaskName → Scope → Type 0
-TaskScoped (single v) scope = IsElaborated v scope
-TaskScoped (indexed a index) scope = AreElaborated a scope × IntegerScoped index scope
+  abbrev pub TaskScoped : TaskName → Scope → Type 0
+  TaskScoped (single v) scope = IsElaborated v scope
+  TaskScoped (indexed a index) scope = AreElaborated a scope × IntegerScoped index scope
 
-abbrev pub BooleanScoped : BooleanExpression → Scope → Type 0
-BooleanScoped (truth b) scope = Unit {0}
-BooleanScoped (stored r) scope = ReferenceScoped r scope
-BooleanScoped (negation x) scope = BooleanScoped x scope
-BooleanScoped (relation operator x y) scope = IntegerScoped x scope × IntegerScoped y scope
-BooleanScoped (comparison operator x y) scope = BooleanScoped x scope × BooleanScoped y scope
-BooleanScoped (logical operator x y) scope = BooleanScoped x scope × BooleanScoped y scope
-BooleanScoped (and_then x y) scope = BooleanScoped x scope × BooleanScoped y scope
-BooleanScoped (or_else x y) scope = BooleanScoped x scope × BooleanScoped y scope
-BooleanScoped (callable t) scope = TaskScoped t scope
-BooleanScoped (terminated t) scope = TaskScoped t scope
+  abbrev pub BooleanScoped : BooleanExpression → Scope → Type 0
+  BooleanScoped (truth b) scope = Unit {0}
+  BooleanScoped (stored r) scope = ReferenceScoped r scope
+  BooleanScoped (negation x) scope = BooleanScoped x scope
+  BooleanScoped (relation operator x y) scope = IntegerScoped x scope × IntegerScoped y scope
+  BooleanScoped (comparison operator x y) scope = BooleanScoped x scope × BooleanScoped y scope
+  BooleanScoped (logical operator x y) scope = BooleanScoped x scope × BooleanScoped y scope
+  BooleanScoped (and_then x y) scope = BooleanScoped x scope × BooleanScoped y scope
+  BooleanScoped (or_else x y) scope = BooleanScoped x scope × BooleanScoped y scope
+  BooleanScoped (callable t) scope = TaskScoped t scope
+  BooleanScoped (terminated t) scope = TaskScoped t scope
 
-abbrev pub ValueScoped : ValueExpression → Scope → Type 0
-ValueScoped (whole subtype x) scope = IntegerScoped x scope
-ValueScoped (boolean x) scope = BooleanScoped x scope
+  abbrev pub ValueScoped : ValueExpression → Scope → Type 0
+  ValueScoped (whole subtype x) scope = IntegerScoped x scope
+  ValueScoped (boolean x) scope = BooleanScoped x scope
 
-abbrev pub ArgumentScoped : Argument → Scope → Type 0
-ArgumentScoped (by_value e) scope = ValueScoped e scope
-ArgumentScoped (by_copy is_in formal r) scope = ReferenceScoped r scope
+  abbrev pub ArgumentScoped : Argument → Scope → Type 0
+  ArgumentScoped (by_value e) scope = ValueScoped e scope
+  ArgumentScoped (by_copy is_in formal r) scope = ReferenceScoped r scope
 
-abbrev pub ArgumentsScoped : List Argument → Scope → Type 0
-ArgumentsScoped [] scope = Unit {0}
-ArgumentsScoped (x ∷ xs) scope = ArgumentScoped x scope × ArgumentsScoped xs scope
+  abbrev pub ArgumentsScoped : List Argument → Scope → Type 0
+  ArgumentsScoped [] scope = Unit {0}
+  ArgumentsScoped (x ∷ xs) scope = ArgumentScoped x scope × ArgumentsScoped xs scope
 
-abbrev pub DelayScoped : DelayExpression → Scope → Type 0
-DelayScoped (milliseconds n) scope = Unit {0}
-DelayScoped (seconds e) scope = IntegerScoped e scope
+  abbrev pub DelayScoped : DelayExpression → Scope → Type 0
+  DelayScoped (milliseconds n) scope = Unit {0}
+  DelayScoped (seconds e) scope = IntegerScoped e scope
 
-abbrev pub FormScoped : CallForm → Scope → Type 0
-FormScoped plainly scope = Unit {0}
-FormScoped conditionally scope = Unit {0}
-FormScoped (timed e) scope = DelayScoped e scope
+  abbrev pub FormScoped : CallForm → Scope → Type 0
+  FormScoped plainly scope = Unit {0}
+  FormScoped conditionally scope = Unit {0}
+  FormScoped (timed e) scope = DelayScoped e scope
 
-abbrev pub CalleeScoped : Callee → Scope → Type 0
-CalleeScoped (of_task t) scope = TaskScoped t scope
-CalleeScoped (of_object v) scope = IsElaborated v scope
+  abbrev pub CalleeScoped : Callee → Scope → Type 0
+  CalleeScoped (of_task t) scope = TaskScoped t scope
+  CalleeScoped (of_object v) scope = IsElaborated v scope
 
--- what the value of a function is assigned to
-abbrev pub IntoScoped : Option Reference → Scope → Type 0
-IntoScoped None scope = Unit {0}
-IntoScoped (Some r) scope = ReferenceScoped r scope
+  -- what the value of a function is assigned to
+  abbrev pub IntoScoped : Option Reference → Scope → Type 0
+  IntoScoped None scope = Unit {0}
+  IntoScoped (Some r) scope = ReferenceScoped r scope
 
-abbrev pub TextScoped : TextExpression → Scope → Type 0
-TextScoped (literal text) scope = Unit {0}
-TextScoped (image e) scope = IntegerScoped e scope
-TextScoped (image_truth e) scope = BooleanScoped e scope
-TextScoped (join x y) scope = TextScoped x scope × TextScoped y scope
-TextScoped new_line scope = Unit {0}
+  abbrev pub TextScoped : TextExpression → Scope → Type 0
+  TextScoped (literal text) scope = Unit {0}
+  TextScoped (image e) scope = IntegerScoped e scope
+  TextScoped (image_truth e) scope = BooleanScoped e scope
+  TextScoped (join x y) scope = TextScoped x scope × TextScoped y scope
+  TextScoped new_line scope = Unit {0}
 
-abbrev pub AllTasksScoped : List TaskName → Scope → Type 0
-AllTasksScoped [] scope = Unit {0}
-AllTasksScoped (t ∷ ts) scope = TaskScoped t scope × AllTasksScoped ts scope
+  abbrev pub AllTasksScoped : List TaskName → Scope → Type 0
+  AllTasksScoped [] scope = Unit {0}
+  AllTasksScoped (t ∷ ts) scope = TaskScoped t scope × AllTasksScoped ts scope
 
 -- in the innermost frame
 abbrev pub in_innermost : (Elaborated → Elaborated) → Scope → Scope
@@ -180,9 +186,9 @@ abbrev pub own_number : Elaborated
 own_number = record { names = 1; cells = 1 }
 
 -- the initial values of its components, each of which is seen by the later ones (RM 9.4)
-abbrev pub ComponentsScoped : List ValueExpression → Elaborated → Scope → Type 0
-ComponentsScoped [] own scope = Unit {0}
-ComponentsScoped (e ∷ es) own scope = ValueScoped e (scope ++ own ∷ []) × ComponentsScoped es (declared_with 1 own) scope
+abbrev pub ComponentsScoped : Plan → List ValueExpression → Elaborated → Scope → Type 0
+ComponentsScoped plan [] own scope = Unit {0}
+ComponentsScoped plan (e ∷ es) own scope = ValueScoped plan e (scope ++ own ∷ []) × ComponentsScoped plan es (declared_with 1 own) scope
 
 module _ (plan : Plan) where
   abbrev pub table : ℕ → List Named
@@ -204,9 +210,20 @@ no_entry_plan = record { name = []; unit = 0 }
 abbrev pub entry_unit : Plan → ℕ → ℕ
 entry_unit plan n = (slice_index_or plan.entries n no_entry_plan).unit
 
+-- unit 0 is the main procedure's, so it is the body of no entry
+abbrev pub IsTaskEntry : Plan → ℕ → Type 0
+IsTaskEntry plan n = (n < length plan.entries) × (entry_unit plan n ≡ 0)
+
+abbrev pub IsObjectEntry : Plan → ℕ → Type 0
+IsObjectEntry plan n = (n < length plan.entries) × (1 ≤ entry_unit plan n) × (entry_unit plan n < length plan.units)
+
 -- the body of a type of tasks
 abbrev pub no_task : TaskPlan
 no_task = record { unit = 0; entries = [] }
+
+-- an object
+abbrev pub no_object : ObjectPlan
+no_object = record { name = []; entries = [] }
 
 abbrev pub task_of : Plan → Tasks → TaskPlan
 task_of plan ts = slice_index_or plan.tasks ts.task_type no_task
@@ -218,8 +235,8 @@ module _ (plan : Plan) (entries : List Entry) where
       (c.unit < length entries)
       × (length c.arguments ≡ (entry_of entries c.unit).formals)
       × AreOpen (entry_of entries c.unit).outer scope
-      × ArgumentsScoped c.arguments scope
-      × IntoScoped c.into scope
+      × ArgumentsScoped plan c.arguments scope
+      × IntoScoped plan c.into scope
 
   -- an operation's call from outside its object: of a unit that is there, with as many arguments as it has formals, where the frames are
   -- open that are around the object's
@@ -228,12 +245,12 @@ module _ (plan : Plan) (entries : List Entry) where
       (c.unit < length entries)
       × (length c.arguments ≡ (entry_of entries c.unit).formals)
       × AreAround (entry_of entries c.unit).outer scope
-      × ArgumentsScoped c.arguments scope
-      × IntoScoped c.into scope
+      × ArgumentsScoped plan c.arguments scope
+      × IntoScoped plan c.into scope
 
-  -- the body of a protected entry is there, where the frames are open that are around its object's
+  -- a task's entry has no body; that of a protected one is there, where the frames are open that are around its object's
   abbrev pub BodyAround : Callee → ℕ → Scope → Type 0
-  BodyAround (of_task t) entry scope = Unit {0}
+  BodyAround (of_task t) entry scope = entry_unit plan entry ≡ 0
   BodyAround (of_object v) entry scope = (entry_unit plan entry < length entries) × AreAround (entry_of entries (entry_unit plan entry)).outer scope
 
   -- tasks of a type that is there, and whose body is, where the frames that it sees are open: its own number is all that is elaborated
@@ -255,46 +272,50 @@ module _ (plan : Plan) (entries : List Entry) where
   AllCreatedScoped nothing scope = Unit {0}
   AllCreatedScoped (some s) scope = CreatedScoped s scope
 
+  -- the entries of an object that is declared see its own frame, and those that are open around that
+  abbrev pub EntriesLevel : ℕ → Scope → Type 0
+  EntriesLevel n scope = AllByRecursion (λ k. length (entry_of entries (entry_unit plan k)).outer ≡ suc (length scope)) (slice_index_or plan.objects n no_object).entries
+
   -- of an entry that is there
   abbrev pub EntryCallScoped : EntryCall → Scope → Type 0
-  EntryCallScoped c scope = (c.entry < length plan.entries) × CalleeScoped c.callee scope × ArgumentsScoped c.arguments scope × FormScoped c.form scope × BodyAround c.callee c.entry scope
+  EntryCallScoped c scope = (c.entry < length plan.entries) × CalleeScoped plan c.callee scope × ArgumentsScoped plan c.arguments scope × FormScoped plan c.form scope × BodyAround c.callee c.entry scope
 
   -- to an entry that is there
   abbrev pub RequeueScoped : Requeue → Scope → Type 0
-  RequeueScoped r scope = (r.entry < length plan.entries) × CalleeScoped r.callee scope × BodyAround r.callee r.entry scope
+  RequeueScoped r scope = (r.entry < length plan.entries) × CalleeScoped plan r.callee scope × BodyAround r.callee r.entry scope
 
   abbrev mutual
     pub StatementScoped : Statement → Scope → Type 0
     StatementScoped (sequence a b) scope = StatementScoped a scope × StatementScoped b (scope_after a scope)
     -- in what is elaborated before it; each variable more only adds to that
-    StatementScoped (declare at up_to e) scope = ValueScoped e scope
+    StatementScoped (declare at up_to e) scope = ValueScoped plan e scope
     StatementScoped (declare_array at t n) scope = Unit {0}
     -- what they see is asked where they begin
     StatementScoped (declare_tasks at ts) scope = Unit {0}
-    StatementScoped (declare_object at n es) scope = (n < length plan.objects) × ComponentsScoped es own_number scope
+    StatementScoped (declare_object at n es) scope = (n < length plan.objects) × ComponentsScoped plan es own_number scope × EntriesLevel n scope
     StatementScoped (activated at) scope = Unit {0}
     StatementScoped (activate at) scope = Unit {0}
     StatementScoped (null at) scope = Unit {0}
-    StatementScoped (assign at r e) scope = ReferenceScoped r scope × ValueScoped e scope
-    StatementScoped (put at t) scope = TextScoped t scope
-    StatementScoped (if_then at c a p) scope = BooleanScoped c scope × StatementScoped a scope × PartScoped p scope
+    StatementScoped (assign at r e) scope = ReferenceScoped plan r scope × ValueScoped plan e scope
+    StatementScoped (put at t) scope = TextScoped plan t scope
+    StatementScoped (if_then at c a p) scope = BooleanScoped plan c scope × StatementScoped a scope × PartScoped p scope
     StatementScoped (plain_loop a) scope = StatementScoped a scope
-    StatementScoped (while_loop at c a) scope = BooleanScoped c scope × StatementScoped a scope
-    StatementScoped (for_loop f a b s) scope = IntegerScoped a scope × IntegerScoped b scope × (cells_of (table plan f.region) ≡ 1) × StatementScoped s (scope ++ all_of_table (table plan f.region) ∷ [])
-    StatementScoped (exit at n c) scope = BooleanScoped c scope
+    StatementScoped (while_loop at c a) scope = BooleanScoped plan c scope × StatementScoped a scope
+    StatementScoped (for_loop f a b s) scope = IntegerScoped plan a scope × IntegerScoped plan b scope × (cells_of (table plan f.region) ≡ 1) × StatementScoped s (scope ++ all_of_table (table plan f.region) ∷ [])
+    StatementScoped (exit at n c) scope = BooleanScoped plan c scope
     StatementScoped (raising at x) scope = IsThere plan x
     StatementScoped (raising_again at) scope = Unit {0}
     StatementScoped (return at) scope = Unit {0}
-    StatementScoped (return_value at e) scope = ValueScoped e scope
+    StatementScoped (return_value at e) scope = ValueScoped plan e scope
     StatementScoped (block at n b) scope = BodyScoped b none_yet (table plan n) scope
     StatementScoped (procedure_call at c) scope = CallScoped c scope
-    StatementScoped (own_entry_call at es form) scope = ArgumentsScoped es scope × FormScoped form scope
+    StatementScoped (own_entry_call at es form) scope = ArgumentsScoped plan es scope × FormScoped plan form scope
     StatementScoped (operation_call at v c) scope = IsElaborated v scope × OperationScoped c scope
     StatementScoped (entry_call at c p q) scope = EntryCallScoped c scope × PartScoped p scope × PartScoped q scope
-    StatementScoped (delay at e) scope = DelayScoped e scope
-    StatementScoped (accept at n d) scope = (n < length plan.entries) × DoingScoped d scope
+    StatementScoped (delay at e) scope = DelayScoped plan e scope
+    StatementScoped (accept at n d) scope = IsTaskEntry plan n × DoingScoped d scope
     StatementScoped (select at offered p) scope = AlternativesScoped offered scope × PartScoped p scope
-    StatementScoped (abort at ts) scope = AllTasksScoped ts scope
+    StatementScoped (abort at ts) scope = AllTasksScoped plan ts scope
     StatementScoped (requeue at r) scope = RequeueScoped r scope
 
     pub PartScoped : Part → Scope → Type 0
@@ -308,9 +329,9 @@ module _ (plan : Plan) (entries : List Entry) where
 
     pub AlternativesScoped : Alternatives → Scope → Type 0
     AlternativesScoped no_alternatives scope = Unit {0}
-    AlternativesScoped (accepting g at n d p more) scope = BooleanScoped g scope × (n < length plan.entries) × DoingScoped d scope × PartScoped p scope × AlternativesScoped more scope
-    AlternativesScoped (delaying g e p more) scope = BooleanScoped g scope × DelayScoped e scope × PartScoped p scope × AlternativesScoped more scope
-    AlternativesScoped (terminating g more) scope = BooleanScoped g scope × AlternativesScoped more scope
+    AlternativesScoped (accepting g at n d p more) scope = BooleanScoped plan g scope × IsTaskEntry plan n × DoingScoped d scope × PartScoped p scope × AlternativesScoped more scope
+    AlternativesScoped (delaying g e p more) scope = BooleanScoped plan g scope × DelayScoped plan e scope × PartScoped p scope × AlternativesScoped more scope
+    AlternativesScoped (terminating g more) scope = BooleanScoped plan g scope × AlternativesScoped more scope
 
     pub HandlersScoped : Handlers → Scope → Type 0
     HandlersScoped no_handlers scope = Unit {0}
@@ -337,7 +358,7 @@ module _ (plan : Plan) (entries : List Entry) where
   -- a barrier is evaluated where the frames are open that its entry's body sees (RM 9.5.2(7)); that of a task's entry is True
   abbrev pub BarriersScoped : List EntryPlan → List BooleanExpression → Type 0
   BarriersScoped [] [] = Unit {0}
-  BarriersScoped (e ∷ es) (b ∷ bs) = BooleanScoped b (entry_of entries e.unit).outer × BarriersScoped es bs
+  BarriersScoped (e ∷ es) (b ∷ bs) = BooleanScoped plan b (entry_of entries e.unit).outer × BarriersScoped es bs
   BarriersScoped _ _ = ⊥
 
 -- no object has an entry twice
@@ -353,6 +374,30 @@ abbrev pub HaveDistinctEntries : List ObjectPlan → Type 0
 HaveDistinctEntries [] = Unit {0}
 HaveDistinctEntries (o ∷ os) = AreDistinct o.entries × HaveDistinctEntries os
 
+-- The entries of types of tasks, which have no body of their own, and those of objects.
+
+abbrev pub entries_of_tasks : List TaskPlan → List ℕ
+entries_of_tasks [] = []
+entries_of_tasks (t ∷ ts) = t.entries ++ entries_of_tasks ts
+
+abbrev pub entries_of_objects : List ObjectPlan → List ℕ
+entries_of_objects [] = []
+entries_of_objects (o ∷ os) = o.entries ++ entries_of_objects os
+
+-- whether a number stands in a list
+abbrev pub stands : ℕ → List ℕ → Bool
+stands n [] = false
+stands n (m ∷ ms) = nat_eq n m || stands n ms
+
+-- each entry stands once, with one type of tasks or one object, and that of an object has its body
+pub record EntriesOwned (plan : Plan) : Type 0 where
+  pub tasks : AllByRecursion (IsTaskEntry plan) (entries_of_tasks plan.tasks)
+  pub objects : AllByRecursion (IsObjectEntry plan) (entries_of_objects plan.objects)
+  pub tasks_once : AreDistinct (entries_of_tasks plan.tasks)
+  pub objects_once : AreDistinct (entries_of_objects plan.objects)
+  pub each : (n : ℕ) → n < length plan.entries → (stands n (entries_of_tasks plan.tasks) || stands n (entries_of_objects plan.objects)) ≡ true
+  pub all : length (entries_of_tasks plan.tasks) + length (entries_of_objects plan.objects) ≡ length plan.entries
+
 -- the main procedure has no formals, and sees no frames but its own
 abbrev pub MainEntry : List Entry → Type 0
 MainEntry [] = ⊥
@@ -365,3 +410,5 @@ pub record IsScoped (program : Program) : Type 0 where
   pub units : UnitsScoped program.plan entries program.plan.units program.bodies entries
   pub barriers : BarriersScoped program.plan entries program.plan.entries program.barriers
   pub objects : HaveDistinctEntries program.plan.objects
+  pub owned : EntriesOwned program.plan
+  pub numbers : UnitsNumbers (length program.plan.regions) program.plan.units program.bodies

@@ -1,4 +1,4 @@
-use Rattle.std.specs.Prelude.{List, map, None}
+use Rattle.std.specs.Prelude.{List, map}
 use Rattle.std.proofs.Common.{◌≡◌, ap, ◌∙◌}
 use Rattle.aud_syntax.specs.Ties.View.{plain_formal}
 use Rattle.aud_fault.specs.declared.fault.Fault.{Fault}
@@ -16,8 +16,8 @@ returns-clause-region c =
     let fs = map plain_formal c.args.source.now in
     let place = c.args.scope.now in
     let frame = plain_region c.in_ok-region.region in
-    let same : checked_formals None fs frame (plain_regions c.deref.result.now) ≡ accept_formals fs place =
-    ap (λ rs. checked_formals None fs frame (plain_regions rs)) c.deref.ensures.value ∙ ap (checked_formals None fs frame) c.in_ok-regions.ensures ∙ ap (λ r. checked_formals None fs r place.regions) c.in_ok-region.ensures in
+    let same : checked_formals fs frame (plain_regions c.deref.result.now) ≡ accept_formals fs place =
+    ap (λ rs. checked_formals fs frame (plain_regions rs)) c.deref.ensures.value ∙ ap (checked_formals fs frame) c.in_ok-regions.ensures ∙ ap (λ r. checked_formals fs r place.regions) c.in_ok-region.ensures in
     c.in_ok-profile.ensures.1 ∙ ap (λ (x : Formals). x.region) same
 
 pub returns-clause-profile : goal.returns-clause-profile
@@ -25,8 +25,8 @@ returns-clause-profile c =
     let fs = map plain_formal c.args.source.now in
     let place = c.args.scope.now in
     let frame = plain_region c.in_ok-region.region in
-    let same : checked_formals None fs frame (plain_regions c.deref.result.now) ≡ accept_formals fs place =
-    ap (λ rs. checked_formals None fs frame (plain_regions rs)) c.deref.ensures.value ∙ ap (checked_formals None fs frame) c.in_ok-regions.ensures ∙ ap (λ r. checked_formals None fs r place.regions) c.in_ok-region.ensures in
+    let same : checked_formals fs frame (plain_regions c.deref.result.now) ≡ accept_formals fs place =
+    ap (λ rs. checked_formals fs frame (plain_regions rs)) c.deref.ensures.value ∙ ap (checked_formals fs frame) c.in_ok-regions.ensures ∙ ap (λ r. checked_formals fs r place.regions) c.in_ok-region.ensures in
     c.in_ok-profile.ensures.2 ∙ ap (λ (x : Formals). x.profile) same
 
 pub returns-clause-entry : goal.returns-clause-entry
@@ -41,8 +41,8 @@ returns-clause-noted c =
     let t = plain_tables c.args.tables.now in
     let frame = plain_region c.in_ok-region.region in
     let f = accept_formals fs place in
-    let same : checked_formals None fs frame (plain_regions c.deref.result.now) ≡ f =
-    ap (λ rs. checked_formals None fs frame (plain_regions rs)) c.deref.ensures.value ∙ ap (checked_formals None fs frame) c.in_ok-regions.ensures ∙ ap (λ r. checked_formals None fs r place.regions) c.in_ok-region.ensures in
+    let same : checked_formals fs frame (plain_regions c.deref.result.now) ≡ f =
+    ap (λ rs. checked_formals fs frame (plain_regions rs)) c.deref.ensures.value ∙ ap (checked_formals fs frame) c.in_ok-regions.ensures ∙ ap (λ r. checked_formals fs r place.regions) c.in_ok-region.ensures in
     let f1 = c.formals.new.faults in
     let m = visible i.name place in
     let rest : List Fault = accepted_faults m i.at f.profile within place t in

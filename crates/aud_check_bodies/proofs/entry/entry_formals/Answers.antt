@@ -1,4 +1,4 @@
-use Rattle.std.specs.Prelude.{List, map, Some}
+use Rattle.std.specs.Prelude.{List, map}
 use Rattle.std.proofs.Common.{◌≡◌, ap, ◌∙◌}
 use Rattle.aud_syntax.specs.Plain as m
 use Rattle.aud_syntax.specs.Ties.View.{plain_entry, plain_formal}
@@ -15,7 +15,7 @@ returns c =
     let own = plain_region c.args.own.now in
     let outer = plain_regions c.args.outer.now in
     let here : Place = plain_place c.args.own.now c.args.outer.now in
-    let given : List m.Formal → List Region → Region → Formals = λ l rs r. checked_formals (Some e.name) l r rs in
+    let given : List m.Formal → List Region → Region → Formals = λ l rs r. checked_formals l r rs in
     let frame = plain_region c.in_ok-regions.region in
     let first = given (map plain_formal c.deref.result.now) (plain_regions c.deref-2.result.now) frame in
     let same : first ≡ entry_formals e own outer =

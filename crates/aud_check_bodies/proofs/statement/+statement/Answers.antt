@@ -31,7 +31,7 @@ use Rattle.aud_syntax.proofs.Written.{dropped}
 use Rattle.aud_typed.specs.Ties.View.{plain_statement as plain_typed_statement, plain_statements as plain_typed_statements, plain_body as plain_typed_body, plain_unit as plain_typed_unit, plain_integer, plain_boolean, plain_delay as plain_typed_delay, plain_form, statements_in}
 use Rattle.aud_fault.specs.declared.fault.Fault.{Fault}
 use Rattle.aud_fault.specs.Least.{noted}
-use Rattle.aud_names.specs.Names.{Region, Place, innermost, place_in, next_frame, body_frame, in_frame, task_place, own_region, task_region, running}
+use Rattle.aud_names.specs.Names.{Region, Place, innermost, place_in, next_frame, in_frame, task_place, own_region, task_region, running}
 use Rattle.aud_check_bodies.specs.Regions.{shown_names, loop_region, in_loop}
 use Rattle.aud_check_bodies.specs.declared.declaration.DeclarativePart.{DeclarativePart}
 use Rattle.aud_check_bodies.specs.Declarations.{Declared, checked_objects, checked_arrays, with_procedure}
@@ -40,13 +40,13 @@ use Rattle.aud_check_bodies.specs.Operations.{Head, Shape, BodyPlaces, body_plac
 use Rattle.aud_check_bodies.specs.Ties.Objects.{plain_head, plain_shape, both_places, ChecksBodies}
 use Rattle.aud_check_bodies.proofs.ObjectBodies.{at_place, operation_opened, operation_unit_left, operation_left_here, stands_in_one, stands_in, places_are, object_left, all_ahead, one_body, all_bodies}
 use Rattle.aud_check_bodies.specs.Tasks.{with_bodies, without_bodies, body_unit, body_task, task_awaited, place_behind, with_activation}
-use Rattle.aud_check_bodies.specs.Formals.{Formals, checked_formals}
+use Rattle.aud_check_bodies.specs.Formals.{Formals, body_formals}
 use Rattle.aud_check_bodies.specs.Accepts.{TypedAccept, accept_formals, accept_faults, accepted, number_of, with_accepted}
 use Rattle.aud_check_bodies.specs.Delays.{delay_at, delay_faults, typed_delay}
 use Rattle.aud_check_bodies.specs.Aborts.{abort_faults, typed_abort}
 use Rattle.aud_check_bodies.specs.Requeues.{Requeuing, requeue_faults, typed_requeue}
 use Rattle.aud_check_bodies.specs.Selects.{TypedAlternative, accepts, delays, terminates, alternatives_of, form_of}
-use Rattle.aud_check_bodies.specs.Ties.DeclarativePart.{Declares, Enters}
+use Rattle.aud_check_bodies.specs.Ties.DeclarativePart.{Declares, DeclaresFormals, Enters}
 use Rattle.aud_names.specs.Ties.Regions.{plain_region, plain_regions, plain_place, names_in}
 use Rattle.aud_check_bodies.specs.Ties.Tables.{plain_tables}
 use Rattle.aud_names.specs.Rules.{right_name_at_end, right_label_at_end, exit_in_loop}
@@ -60,7 +60,7 @@ use Rattle.aud_names.specs.declared.names.NamedParameter.{NamedParameter}
 use Rattle.aud_check_bodies.specs.Calls.{EntryCalled, call_faults, typed_call, entry_call_of, selected_call}
 use Rattle.aud_check_bodies.specs.Handlers.{raise_faults, typed_raise, none_chosen, all_choices_faults, is_others, choices_of}
 use Rattle.aud_check_bodies.specs.Tables.{Tables, Outcome, fine, and_then, next_region, with_region, region_kept, region_named, next_unit, unit_kept, with_unit}
-use Rattle.aud_check_bodies.specs.Statements.{Around, nothing_around, task_around, begin_of, TypedStatements, TypedArm, TypedHandler, TypedBody, begin_at, return_faults, typed_return, end_name, end_semicolon, procedure_place, procedure_formals, body_with, labelled, handling, loop_number, arm_then, arms_then, arm_of, handler_of, sequence_of, in_entry, in_accept, checked_accept, checked_alternative, checked_alternatives, checked_otherwise, checked_statement, checked_loop, checked_statements, checked_others, checked_arms, checked_body, checked_handlers, checked_declaration, checked_declarations, checked_bodies, checked_operation, checked_operation_unit, operation_around, leaving_body, body_behind, checked_unit}
+use Rattle.aud_check_bodies.specs.Statements.{Around, nothing_around, task_around, begin_of, TypedStatements, TypedArm, TypedHandler, TypedBody, begin_at, return_faults, typed_return, end_name, end_semicolon, procedure_place, body_with, labelled, handling, loop_number, arm_then, arms_then, arm_of, handler_of, sequence_of, in_entry, in_accept, checked_accept, checked_alternative, checked_alternatives, checked_otherwise, checked_statement, checked_loop, checked_statements, checked_others, checked_arms, checked_body, checked_handlers, checked_declaration, checked_declarations, checked_bodies, checked_operation, checked_operation_unit, operation_around, leaving_body, body_behind, checked_unit}
 use Rattle.aud_check_bodies.specs.Ties.Arms.{plain_arm, plain_arms, plain_handler, plain_handlers, plain_parts, plain_sequence, plain_items, plain_accepted, plain_alternative, plain_alternatives}
 use Rattle.aud_check_bodies.specs.declared.entry_call.EntryCalled as memory_call
 use Rattle.aud_check_bodies.specs.Ties.Passed.{plain_maybe_called}
@@ -814,8 +814,8 @@ procedure-returns t c =
     let place : Place = plain_place first.region seen in
     let tables = plain_tables c.args.tables.now in
     let old = c.args.faults.now in
+    let formed = c.body_formals.new.faults in
     let named = c.declare_procedure.new.faults in
-    let formed = c.formals.new.faults in
     let shown_faults = c.procedure_part.new.faults in
     let stated_faults = c.body_behind-body.new.faults in
     let new = c.right_name_at_end.new.faults in
@@ -831,41 +831,35 @@ procedure-returns t c =
     let behind : plain_place declared seen ≡ here =
     ap (λ r. place_in r (plain_regions seen)) c.in_ok-declare_procedure.ensures.region ∙ ap (λ n. place_in (with_procedure x.name n (plain_region first.region)) (plain_regions seen)) c.next_unit-number.ensures in
     let regions = c.in_ok-regions.regions in
-    let around : plain_regions regions.items ≡ here.regions = c.in_ok-regions.ensures.regions ∙ ap (λ (z : Place). z.regions) behind in
-    let frame : plain_region c.in_ok-regions.region ≡ body_frame here = c.in_ok-regions.ensures.own ∙ ap body_frame behind in
-    let formals : Formals = procedure_formals x.name fs here in
-    let given : List m.Formal → List Region → Region → Formals = λ l rs r. checked_formals (Some x.name) l r rs in
-    let shown : given (map plain_formal c.deref.result.now) (plain_regions c.deref-2.result.now) (plain_region c.in_ok-regions.region) ≡ formals =
-    ap (λ l. given (map plain_formal l) (plain_regions c.deref-2.result.now) (plain_region c.in_ok-regions.region)) c.deref.ensures.value
-    ∙ ap (λ rs. given fs (plain_regions rs) (plain_region c.in_ok-regions.region)) c.deref-2.ensures.value
-    ∙ ap (λ rs. given fs rs (plain_region c.in_ok-regions.region)) around ∙ ap (given fs here.regions) frame in
-    let all = c.in_ok-profile.ensures in
-    let noted_formals : formed ≡ noted named formals.faults = all.0 ∙ ap (λ (g : Formals). noted named g.faults) shown in
+    let around : plain_regions regions.items ≡ here.regions = c.in_ok-regions.ensures ∙ ap (λ (z : Place). z.regions) behind in
+    let formals : Formals = body_formals fs place in
+    let region = c.in_ok-region.region in
+    let profile = c.in_ok-region.profile.items in
+    let all : DeclaresFormals old formed region [] profile formals = subst (λ l. DeclaresFormals old formed region [] profile (body_formals (map plain_formal l) place)) c.deref.ensures.value c.in_ok-region.ensures in
     let entry : Tables = plain_tables c.keep_unit.new.self in
-    let kept : entry ≡ unit_kept formals.profile tables = c.in_ok-keep_unit.ensures ∙ ap (λ p. unit_kept p tables) (all.2 ∙ ap (λ (g : Formals). g.profile) shown) in
-    let own = plain_place c.formals.new.region regions.items in
-    let inner : own ≡ place_in formals.region here.regions =
-    ap (λ r. place_in r (plain_regions regions.items)) (all.1 ∙ ap (λ (g : Formals). g.region) shown) ∙ ap (place_in formals.region) around in
+    let kept : entry ≡ unit_kept formals.profile tables = c.in_ok-keep_unit.ensures ∙ ap (λ p. unit_kept p tables) all.2 in
+    let own = plain_place region regions.items in
+    let inner : own ≡ place_in formals.region here.regions = ap (λ r. place_in r (plain_regions regions.items)) all.1 ∙ ap (place_in formals.region) around in
     let part = c.in_ok-inner.inner in
     let body = plain_typed_body c.in_ok-body.body.value in
     let made = plain_typed_unit c.in_ok-unit.unit.value in
     let in_it : m.Declarations → Place → Outcome Declared = λ l z. with_bodies (checked_declarations l z (region_kept entry)) in
-    let enters : Enters formed shown_faults regions.items part (next_region entry) shown_tables (in_it ds own) =
-    subst (λ rs. Enters formed shown_faults rs part (next_region entry) shown_tables (in_it ds (plain_place c.formals.new.region rs))) c.deref-3.ensures.value c.in_ok-inner.ensures in
+    let enters : Enters named shown_faults regions.items part (next_region entry) shown_tables (in_it ds own) =
+    subst (λ rs. Enters named shown_faults rs part (next_region entry) shown_tables (in_it ds (plain_place region rs))) c.deref-2.ensures.value c.in_ok-inner.ensures in
     let stated : Is shown_faults stated_faults u body (body_behind false (plain_items part.elaborations) source nothing_around (plain_place part.region regions.items) shown_tables) =
-    subst (λ rs. Is shown_faults stated_faults u body (body_behind false (plain_items part.elaborations) source nothing_around (plain_place part.region rs) shown_tables)) c.deref-4.ensures.value
-    (subst (λ r. Checks (in_box plain_typed_body) r shown_faults stated_faults u (body_behind false (plain_items part.elaborations) source nothing_around (plain_place part.region c.deref-4.result.now) shown_tables)) c.in_ok-body.was c.body_behind-body.ensures) in
-    let whole = entered_left formed shown_faults stated_faults entry shown_tables u false ds source nothing_around own (plain_place part.region regions.items) (plain_items part.elaborations) body enters.0 enters.1 enters.2 enters.3 stated in
+    subst (λ rs. Is shown_faults stated_faults u body (body_behind false (plain_items part.elaborations) source nothing_around (plain_place part.region rs) shown_tables)) c.deref-3.ensures.value
+    (subst (λ r. Checks (in_box plain_typed_body) r shown_faults stated_faults u (body_behind false (plain_items part.elaborations) source nothing_around (plain_place part.region c.deref-3.result.now) shown_tables)) c.in_ok-body.was c.body_behind-body.ensures) in
+    let whole = entered_left named shown_faults stated_faults entry shown_tables u false ds source nothing_around own (plain_place part.region regions.items) (plain_items part.elaborations) body enters.0 enters.1 enters.2 enters.3 stated in
     let ends : new ≡ noted stated_faults (right_name_at_end x.name.name (end_name source)) =
     c.right_name_at_end.ensures ∙ ap (λ z. noted stated_faults (right_name_at_end x.name.name (end_name z))) (sym (body_open x.body)) in
-    let unit : ℕ → tree.UnitBody = λ n. record { level = c.formals.new.region.level; region = n; is_function = false; at = x.at; body = body } in
-    let checked : Is formed new u made (checked_unit false x.at x.name.name ds source own entry) =
-    unit_left formed stated_faults new entry u false x.at x.name.name ds source own body made whole ends (c.in_ok-unit.ensures ∙ ap unit c.next_region-own.ensures) in
+    let unit : ℕ → tree.UnitBody = λ n. record { level = region.level; region = n; is_function = false; at = x.at; body = body } in
+    let checked : Is named new u made (checked_unit false x.at x.name.name ds source own entry) =
+    unit_left named stated_faults new entry u false x.at x.name.name ds source own body made whole ends (c.in_ok-unit.ensures ∙ ap unit c.next_region-own.ensures) in
     let put : plain_tables c.put_unit.new.self ≡ with_unit (next_unit tables) made u =
     c.put_unit.ensures ∙ ap (λ n. with_unit n (plain_typed_unit c.into_inner.result) u) c.next_unit-number.ensures ∙ ap (λ v. with_unit (next_unit tables) (plain_typed_unit v) u) c.into_inner.ensures in
     let end = plain_tables c.put_unit.new.self in
     subst (λ z. Declares old new seen first last end (checked_declaration z place tables)) (sym (procedure_open c.args.node.now))
-    (procedure_left old named formed new seen first last tables entry u end x.at x.name fs ds source own made c.in_ok-declare_procedure.ensures.noted behind refl noted_formals inner kept checked put)
+    (procedure_left old formed named new seen first last tables entry u end x.at x.name fs ds source own made all.0 c.in_ok-declare_procedure.ensures.noted behind refl inner kept checked put)
 
 pub declaration-returns-in-Object : goal.declaration-returns-in-Object
 declaration-returns-in-Object t c =
@@ -943,16 +937,16 @@ operation_body-returns t c =
     let source = plain_body x.body in
     let object = d.object in
     let parts = d.parts.now in
-    let shape : Shape = shape_of head i fs here in
+    let shape : Shape = shape_of head fs here in
     let found : Option PartKind = part_awaited head i (at_place object parts here) awaited in
     let b = c.in_ok-shape-2 in
-    let shape_is : plain_shape c.in_ok-shape.shape ≡ shape = c.in_ok-shape.ensures.1 ∙ ap (λ l. shape_of head i (map plain_formal l) here) c.deref.ensures.value in
+    let shape_is : plain_shape c.in_ok-shape.shape ≡ shape = c.in_ok-shape.ensures.1 ∙ ap (λ l. shape_of head (map plain_formal l) here) c.deref.ensures.value in
     let still_shape : plain_shape b.shape ≡ shape = ap plain_shape b.ensures.first ∙ shape_is in
-    let noted_shape : shaped ≡ noted old (shape_faults head i fs here) = c.in_ok-shape.ensures.0 ∙ ap (λ l. noted old (shape_faults head i (map plain_formal l) here)) c.deref.ensures.value in
+    let noted_shape : shaped ≡ noted old (shape_faults head fs here) = c.in_ok-shape.ensures.0 ∙ ap (λ l. noted old (shape_faults head (map plain_formal l) here)) c.deref.ensures.value in
     let matched_faults : Shape → List Fault = λ (s : Shape). operation_matched found i.at s.profile s.returned tables ++ barrier_faults head s.region here in
     let noted_match : headed ≡ noted shaped (matched_faults shape) =
     subst (λ r. OnOk r (headed ≡ noted shaped (matched_faults (plain_shape c.in_ok-shape.shape)))) b.ensures.next c.matched-unit.ensures.noted ∙ ap (λ s. noted shaped (matched_faults s)) shape_is in
-    let noted_head : headed ≡ noted old (shape_faults head i fs here ++ matched_faults shape) = noted_then old shaped headed (shape_faults head i fs here) (matched_faults shape) noted_shape noted_match in
+    let noted_head : headed ≡ noted old (shape_faults head fs here ++ matched_faults shape) = noted_then old shaped headed (shape_faults head fs here) (matched_faults shape) noted_shape noted_match in
     let kept : entry ≡ operation_tables head found shape.region here tables =
     subst (λ r. OnOk r (entry ≡ operation_tables head found (plain_region c.in_ok-shape.shape.region) here tables)) b.ensures.next c.matched-unit.ensures.tables ∙ ap (λ (s : Shape). operation_tables head found s.region here tables) shape_is in
     let still : c.matched-unit.new.awaited.items ≡ still_awaited found awaited = subst (λ r. OnOk r (c.matched-unit.new.awaited.items ≡ still_awaited found awaited)) b.ensures.next c.matched-unit.ensures.awaited in
@@ -967,7 +961,7 @@ operation_body-returns t c =
     let in_it : m.Declarations → Place → Outcome Declared = λ l z. with_bodies (checked_declarations l z (region_kept entry)) in
     let enters : Enters headed shown_faults regions.items part (next_region entry) shown_tables (in_it ds own) =
     subst (λ rs. Enters headed shown_faults rs part (next_region entry) shown_tables (in_it ds (plain_place b.shape.region rs))) c.deref-2.ensures.value c.in_ok-inner.ensures in
-    let around : Around = operation_around head i fs object here in
+    let around : Around = operation_around head fs object here in
     let given_profile : List NamedParameter = c.deref-4.result.now in
     let asked : plain_requeuing c.in_entry.result given_profile ≡ in_entry head shape.profile object =
     c.in_entry.ensures given_profile ∙ ap (λ l. in_entry head l object) (c.deref-4.ensures.value ∙ ap (λ (s : Shape). s.profile) still_shape) in

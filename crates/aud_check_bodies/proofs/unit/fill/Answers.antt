@@ -1,4 +1,4 @@
-use Rattle.std.specs.Prelude.{ℕ, false, List, Option, Result, Ok, Err, IfOk}
+use Rattle.std.specs.Prelude.{ℕ, false, List, ◌++◌, Option, Result, Ok, Err, IfOk}
 use Rattle.std.specs.declared.alloc.AllocError.{AllocError}
 use Rattle.std.proofs.Common.{◌≡◌, ap, sym, subst, ◌∙◌}
 use Rattle.aud_syntax.specs.Plain as m
@@ -9,7 +9,7 @@ use Rattle.aud_typed.specs.Ties.View.{plain_body as plain_typed_body, plain_unit
 use Rattle.aud_fault.specs.declared.fault.Fault.{Fault}
 use Rattle.aud_fault.specs.Least.{noted}
 use Rattle.aud_names.specs.Names.{Place, empty_region, place_in, main_place}
-use Rattle.aud_names.specs.Rules.{right_name_at_end}
+use Rattle.aud_names.specs.Rules.{program_named, right_name_at_end}
 use Rattle.aud_check_bodies.specs.Tables.{Tables, Outcome, next_region, region_kept, unit_kept, with_unit}
 use Rattle.aud_check_bodies.specs.Declarations.{Declared}
 use Rattle.aud_check_bodies.specs.Tasks.{with_bodies}
@@ -20,6 +20,7 @@ use Rattle.aud_names.specs.Ties.Regions.{plain_regions, plain_place}
 use Rattle.aud_check_bodies.specs.Ties.Tables.{plain_tables}
 use Rattle.aud_check_bodies.specs.Ties.Arms.{plain_items}
 use Rattle.aud_typing.specs.Ties.Typing.{Leaves}
+use Rattle.aud_typing.proofs.Notes.{noted_then}
 use Rattle.aud_check_bodies.proofs.Walked.{Is}
 use Rattle.aud_check_bodies.proofs.Bodies.{entered_left, unit_left}
 use Rattle.aud_check_bodies.proofs.unit.fill.Goals as goal
@@ -33,6 +34,7 @@ returns c =
     let node = c.args.node.now in
     let main = node.name in
     let old = c.args.faults.now in
+    let named = c.program_named.new.faults in
     let declared = c.declared.new.faults in
     let stated = c.body_behind.new.faults in
     let new = c.right_name_at_end.new.faults in
@@ -51,17 +53,18 @@ returns c =
     let made = plain_typed_unit c.in_ok-main.main.value in
     let whole : Outcome tree.UnitBody = checked_unit false node.at main.name ds source place main_tables in
     let in_it : m.Declarations → Place → Tables → Outcome Declared = λ l z w. with_bodies (checked_declarations l z (region_kept w)) in
-    let enters : Enters old declared outer part (next_region main_tables) entry (in_it ds place main_tables) =
-    subst (λ w. Enters old declared outer part (next_region w) entry (in_it ds place w)) begun
-    (subst (λ z. Enters old declared outer part (next_region kept) entry (in_it ds z kept)) placed
-    (subst (λ l. Enters old declared outer part (next_region kept) entry (in_it (plain_declarations l) (plain_place c.new-region.result outer) kept)) c.deref.ensures.value c.in_ok-part.ensures)) in
-    let entered = entered_left old declared stated main_tables entry u false ds source nothing_around place (plain_place part.region outer) (plain_items part.elaborations) body enters.0 enters.1 enters.2 enters.3 c.in_ok-body.ensures in
-    let named : new ≡ noted stated (right_name_at_end main.name (end_name source)) =
+    let enters : Enters named declared outer part (next_region main_tables) entry (in_it ds place main_tables) =
+    subst (λ w. Enters named declared outer part (next_region w) entry (in_it ds place w)) begun
+    (subst (λ z. Enters named declared outer part (next_region kept) entry (in_it ds z kept)) placed
+    (subst (λ l. Enters named declared outer part (next_region kept) entry (in_it (plain_declarations l) (plain_place c.new-region.result outer) kept)) c.deref.ensures.value c.in_ok-part.ensures)) in
+    let entered = entered_left named declared stated main_tables entry u false ds source nothing_around place (plain_place part.region outer) (plain_items part.elaborations) body enters.0 enters.1 enters.2 enters.3 c.in_ok-body.ensures in
+    let closed : new ≡ noted stated (right_name_at_end main.name (end_name source)) =
     c.right_name_at_end.ensures ∙ ap (λ z. noted stated (right_name_at_end main.name (end_name z))) (sym (body_open node.body)) in
     let unit : ℕ → tree.UnitBody = λ n. record { level = 0; region = n; is_function = false; at = node.at; body = body } in
-    let checked : Is old new u made whole =
-    unit_left old stated new main_tables u false node.at main.name ds source place body made entered named (c.in_ok-main.ensures ∙ ap unit (c.next_region-number.ensures ∙ ap next_region begun)) in
+    let checked : Is named new u made whole =
+    unit_left named stated new main_tables u false node.at main.name ds source place body made entered closed (c.in_ok-main.ensures ∙ ap unit (c.next_region-number.ensures ∙ ap next_region begun)) in
     let final : Tables = plain_tables c.put_unit.new.self in
     let ended : final ≡ with_unit 0 whole.made whole.tables =
     c.put_unit.ensures ∙ ap (λ v. with_unit 0 (plain_typed_unit v) u) c.into_inner.ensures ∙ ap (λ v. with_unit 0 v u) checked.2 ∙ ap (with_unit 0 whole.made) checked.1 in
-    answered c.try_clone.result old new whole.faults main.name final (program_with main.name (with_unit 0 whole.made whole.tables)) checked.0 (ap (program_with main.name) ended) c.try_clone.ensures
+    let first = program_named main.name main.at in
+    answered c.try_clone.result old new (first ++ whole.faults) main.name final (program_with main.name (with_unit 0 whole.made whole.tables)) (noted_then old named new first whole.faults c.program_named.ensures checked.0) (ap (program_with main.name) ended) c.try_clone.ensures

@@ -18,18 +18,18 @@ returns-then-is c = record {
   shorter = omega (arith, c.in_ok-t.ensures.shorter);
 }
 
-pub returns-in_err-rest : goal.returns-in_err-rest
-returns-in_err-rest c = exit_in _ _ _ c.from_residual-in_err-rest.ensures.1 (c.in_err-rest.ensures.reads c.args.room) (λ k ds v o. o_rule (o_other (sym c.is.ensures ∙ c.if-is.false) (o_last (o_rule o))))
+pub returns-in_err-named : goal.returns-in_err-named
+returns-in_err-named c = exit_in _ _ _ c.from_residual-in_err-named.ensures.1 (c.in_err-named.ensures.reads c.args.room) (λ k ds v o. o_rule (o_other (sym c.is.ensures ∙ c.if-is.false) (o_last (o_rule o))))
 
 pub returns-in_err-value : goal.returns-in_err-value
-returns-in_err-value c = exit_in _ _ _ c.from_residual-in_err-value.ensures.1 c.in_err-value.ensures.reads (λ k ds v o. o_rule (o_other (sym c.is.ensures ∙ c.if-is.false) (o_last (o_rule (c.in_ok-rest.ensures.reads _ _ _ _ o)))))
+returns-in_err-value c = exit_in _ _ _ c.from_residual-in_err-value.ensures.1 c.in_err-value.ensures.reads (λ k ds v o. o_rule (o_other (sym c.is.ensures ∙ c.if-is.false) (o_last (o_rule (c.in_ok-named.ensures.reads _ _ _ _ o)))))
 
 pub returns : goal.returns
 returns c = record {
   reads = λ k ds v o. (
     _,
-    o_rule (o_other (sym c.is.ensures ∙ c.if-is.false) (o_last (o_rule (c.in_ok-rest.ensures.reads _ _ _ _ (c.in_ok-value.ensures.reads _ _ _ o))))),
-    duration_items c.in_ok-delay-2.delay (token c.args.begin.now) c.in_ok-value.value ds (rw (sym c.at-2.ensures) c.in_ok-delay-2.ensures),
+    o_rule (o_other (sym c.is.ensures ∙ c.if-is.false) (o_last (o_rule (c.in_ok-named.ensures.reads _ _ _ _ (c.in_ok-value.ensures.reads _ _ _ o))))),
+    duration_items c.in_ok-delay-2.delay (token c.args.begin.now) (token c.in_ok-named.named.now) c.in_ok-value.value ds (rw (sym c.at-2.ensures, sym c.at-3.ensures) c.in_ok-delay-2.ensures),
   );
-  shorter = omega (arith, c.in_ok-rest.ensures.shorter, c.in_ok-value.ensures.shorter);
+  shorter = omega (arith, c.in_ok-named.ensures.shorter, c.in_ok-value.ensures.shorter);
 }
