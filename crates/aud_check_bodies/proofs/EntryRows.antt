@@ -3,7 +3,7 @@ use Rattle.std.specs.Prelude.{ℕ, pos, Bool, true, false, List, [], ◌∷◌, 
 use Rattle.std.proofs.Common.{◌≡◌, refl}
 use Rattle.aud_text.specs.declared.place.Pos.{Pos}
 use Rattle.aud_text.specs.declared.refusal.Refusal.{Refusal}
-use Rattle.aud_text.specs.declared.refusal.Refusal.TheVariants.{NameNotDeclared, DeclaredTwice, WrongKindOfName, WrongType, WrongNumberOfArguments, NotAVariable, WrongNameAtEnd, AcceptOrCountOutOfPlace, FormalsDoNotConform, ExitWithoutLoop, ReturnOutOfPlace}
+use Rattle.aud_text.specs.declared.refusal.Refusal.TheVariants.{NameNotDeclared, DeclaredTwice, WrongKindOfName, WrongType, WrongNumberOfArguments, NotAVariable, WrongNameAtEnd, AcceptOrCountOutOfPlace, FormalsDoNotConform, ExitWithoutLoop}
 use Rattle.aud_syntax.specs.declared.tree.Bound.{Bound}
 use Rattle.aud_syntax.specs.declared.tree.Mode.{Mode}
 use Rattle.aud_syntax.specs.declared.tree.Mode.TheVariants.{Unstated, In, Out, InOut}

@@ -5,7 +5,7 @@ use Rattle.aud_text.specs.declared.place.Pos.{Pos}
 use Rattle.aud_text.specs.declared.refusal.Refusal.{Refusal}
 use Rattle.aud_text.specs.declared.refusal.Refusal.TheVariants.{NameNotDeclared, WrongKindOfName, WrongType, WrongNumberOfArguments, NumberTooLarge, TooManyDecimals, NotAnEntry}
 use Rattle.aud_syntax.specs.declared.tree.Real.{Real}
-use Rattle.aud_syntax.specs.Plain.{Expression, named, no_parts, more_parts, part, no_args, no_expression, an_expression, Name, Declaration, object, task, task_body, Statement, null, Delay, delay_real, delay_duration, delaying, select_accept, select_call, accept, without_do, accept_alternative, delay_alternative, terminate_alternative, no_alternatives, more_alternatives, no_statements, more_statements, or_delay, or_else, body, no_handlers, Unit, unit}
+use Rattle.aud_syntax.specs.Plain.{named, no_parts, more_parts, part, no_args, no_expression, an_expression, Name, object, task, task_body, Statement, null, Delay, delay_real, delay_duration, delaying, select_accept, select_call, accept, without_do, accept_alternative, delay_alternative, terminate_alternative, no_alternatives, more_alternatives, no_statements, more_statements, or_delay, or_else, body, no_handlers, Unit, unit}
 use Rattle.aud_syntax.specs.Why.Shorthand.{at, id, var_at, num, var, only, statements, declarations}
 use Rattle.aud_typed.specs.Tree as tree
 use Rattle.aud_fault.specs.declared.fault.Fault.{Fault}

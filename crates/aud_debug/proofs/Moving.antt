@@ -1,12 +1,12 @@
 -- The lines of moves, one by one.
-use Rattle.std.proofs.Common.{◌≡◌, ◌<◌, ◌≤◌, ◌+◌, ℕ, zero, suc, List, [], ◌∷◌, ◌++◌, length, drop, get_or, Bool, true, false, add-one, refl, ap, sym, subst, ◌∙◌, arith}
+use Rattle.std.proofs.Common.{◌≡◌, ◌<◌, ◌≤◌, ◌+◌, ℕ, zero, suc, List, [], ◌∷◌, ◌++◌, length, drop, get_or, Bool, true, false, add-one, refl, ap, sym, ◌∙◌, arith}
 use Rattle.std.proofs.lemmas.List.{at_drop_all, drop_more}
 use Rattle.aud_typed.specs.Tree.{Plan}
 use Rattle.aud_meaning.specs.declared.state.Move.{Move}
 use Rattle.aud_meaning.specs.Configuration.{TaskAt, All}
 use Rattle.aud_meaning.specs.Control.{Seen}
 use Rattle.aud_meaning.specs.Listings.{move_lines, move_lines_of, moves_by_enabled, moves_view}
-use Rattle.aud_meaning.specs.Run.{Turn, has_ended, moves, moves_at, moves_by, moves_from, seen, turn, turn_moves}
+use Rattle.aud_meaning.specs.Run.{has_ended, moves_at, moves_by, moves_from, seen, turn, turn_moves}
 use Rattle.aud_code.specs.Places.{Spot}
 use Rattle.aud_code.specs.Flat.{Flat, barrier_at, flat_controls}
 use Rattle.aud_machine.specs.Tasking.{seen_in}

@@ -1,8 +1,7 @@
 -- The cells of an object that is declared are seen as one more frame, behind all others.
-use Rattle.std.proofs.Common.{◌≡◌, ℕ, zero, suc, ℤ, List, [], ◌∷◌, ◌++◌, length, Option, Some, None, Bool, true, slice_index_or, refl, ap, sym, ◌∙◌}
+use Rattle.std.proofs.Common.{◌≡◌, ℕ, zero, suc, ℤ, List, [], ◌∷◌, ◌++◌, length, Option, Some, None, true, slice_index_or, refl, ap}
 use Rattle.std.specs.Prelude.{slice_index}
-use Rattle.aud_meaning.specs.Configuration.{Frame}
-use Rattle.aud_meaning.specs.Evaluation.{Facts, Sight}
+use Rattle.aud_meaning.specs.Evaluation.{Sight}
 use Rattle.aud_code.specs.Eval.{seen_in}
 use Rattle.aud_code.specs.Sound.{is_some}
 use Rattle.aud_expr.specs.Operands.{own_cells}

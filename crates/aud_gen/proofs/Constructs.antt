@@ -6,7 +6,7 @@ use Rattle.aud_typed.specs.declared.program.ForStatement.{ForStatement, out-ForS
 use Rattle.aud_typed.specs.declared.program.Handler.{Handler}
 use Rattle.aud_typed.specs.Ties.View.{plain_integer, statements_in, for_in, handlers_in}
 use Rattle.aud_typed.specs.Tree as tree
-use Rattle.aud_typed.specs.Tree.{For, nothing, body, for_loop, block, no_handlers, handler}
+use Rattle.aud_typed.specs.Tree.{For, body, for_loop, block}
 use Rattle.aud_meaning.specs.declared.state.Construct.{Construct}
 use Rattle.aud_meaning.specs.declared.state.Construct.TheVariants as construct
 use Rattle.aud_code.specs.Places.{Way, Guard}

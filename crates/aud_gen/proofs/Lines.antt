@@ -7,7 +7,7 @@ use Rattle.aud_typed.specs.declared.program.Arm.{Arm}
 use Rattle.aud_typed.specs.declared.program.Statement.{Statement}
 use Rattle.aud_typed.specs.Ties.View.{plain_boolean, plain_statement, plain_statements, in_order, statements_in, part_of_arms}
 use Rattle.aud_typed.specs.Tree as tree
-use Rattle.aud_typed.specs.Tree.{For, before, part_of, nothing, some, body, if_then, plain_loop, while_loop, for_loop, block}
+use Rattle.aud_typed.specs.Tree.{before, part_of, nothing, some, if_then, plain_loop, while_loop}
 use Rattle.aud_meaning.specs.declared.state.Construct.{Construct}
 use Rattle.aud_code.specs.declared.line.Ending.TheVariants.{If, While}
 use Rattle.aud_code.specs.declared.line.Last.TheVariants.{Does}

@@ -15,7 +15,7 @@ use Rattle.aud_syntax.specs.declared.tree.Connective.TheVariants as connective
 use Rattle.aud_syntax.specs.Plain as m
 use Rattle.aud_syntax.specs.Why.Bare.{nowhere, bare_ident, bare_number, bare_literal, bare_signed, bare_operator, bare_sign, bare_highest, bare_end, bare_expression, bare_relation, bare_relations, bare_name, bare_part, bare_parts, bare_args, bare_simple, bare_addeds, bare_added, bare_term, bare_multiplieds, bare_multiplied, bare_factor, bare_primary, bare_maybe, bare_mode, bare_formal, bare_task_definition, bare_definition, bare_declaration, bare_declarations, bare_statement, bare_more_statements, bare_statements, bare_body, bare_context, bare, bare_arms, bare_iteration, bare_bound, bare_choices, bare_handlers, bare_real, bare_entry, bare_operation, bare_private_item, bare_private, bare_delay, bare_names, bare_operation_body, bare_operation_bodies, bare_accept, bare_doing, bare_alternative, bare_alternatives, bare_other}
 use Rattle.aud_grammar.specs.Grammar as g
-use Rattle.aud_grammar.specs.Grammar.{Phrase, Symbol, T, P, N, L, Down, A, Opt, Rep, rule}
+use Rattle.aud_grammar.specs.Grammar.{Phrase}
 use Rattle.aud_grammar.specs.Actions as a
 use Rattle.aud_grammar.specs.Actions.{Item, token, none, cons, top, pop, listed, made}
 

@@ -11,7 +11,7 @@ use Rattle.aud_text.specs.Name.{capitals}
 use Rattle.aud_syntax.specs.Why.Bare.{nowhere, bare}
 use Rattle.aud_grammar.specs.Values.{whole_part, decimals}
 use Rattle.aud_grammar.specs.Grammar as g
-use Rattle.aud_grammar.specs.Grammar.{Word, Phrase, Symbol, T, P, W, N, L, Down, A, Opt, Rep, rule}
+use Rattle.aud_grammar.specs.Grammar.{Word, Phrase, Symbol, P, W, N}
 use Rattle.aud_grammar.specs.First.{spelling, among, same_text, is_word, next_word, next_in, firsts}
 use Rattle.aud_grammar.specs.Actions as a
 use Rattle.aud_grammar.specs.Actions.{Item, token, none, top, pop, listed, made, the_unit}

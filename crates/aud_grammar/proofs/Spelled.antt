@@ -4,7 +4,7 @@ use Rattle.aud_text.specs.declared.limits.TheConstants.{LEVELS}
 use Rattle.aud_lex.specs.Element.{Element}
 use Rattle.aud_syntax.specs.Plain as m
 use Rattle.aud_grammar.specs.Grammar as g
-use Rattle.aud_grammar.specs.Grammar.{Phrase, N}
+use Rattle.aud_grammar.specs.Grammar.{Phrase}
 use Rattle.aud_grammar.specs.Parsed.{Ran, parsed, parsed_as, judged}
 use Rattle.aud_grammar.specs.Actions.{Item, the_unit}
 use Rattle.aud_grammar.specs.Why.Spells.{SpellsAs, Spells}

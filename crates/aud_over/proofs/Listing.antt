@@ -1,5 +1,5 @@
 -- What is listed is the same where programs are the same but for what nothing names.
-use Rattle.std.proofs.Common.{◌≡◌, ℕ, suc, ◌+◌, List, [], ◌∷◌, ◌++◌, length, reverse, slice_get, slice_index_or, Option, Some, None, Bool, true, false, refl, sym, ap, ◌∙◌}
+use Rattle.std.proofs.Common.{◌≡◌, ℕ, suc, ◌+◌, List, [], ◌∷◌, ◌++◌, length, reverse, slice_index_or, Bool, true, false, refl, sym, ap, ◌∙◌}
 use Rattle.std.specs.Prelude.{Result, codes}
 use mathlib.Core.List.{reverse_aux}
 use Rattle.std.specs.Fmt.{decimal}

@@ -1,6 +1,6 @@
 -- What is known of a request that fits behind what was sent, and of one that does not.
-use Rattle.std.specs.Prelude.{not, ◌||◌, if◌then◌else◌}
-use Rattle.std.proofs.Common.{◌≡◌, ℕ, List, length, Option, Some, None, Bool, true, false, refl, sym, ap, ◌∙◌, subst}
+use Rattle.std.specs.Prelude.{not, ◌||◌}
+use Rattle.std.proofs.Common.{◌≡◌, List, length, Option, Some, None, Bool, true, false, refl, sym, ap, ◌∙◌, subst}
 use Rattle.aud_text.specs.declared.limits.Limits.{Limits}
 use Rattle.aud_bench.specs.declared.request.Request.{Request}
 use Rattle.aud_bench.specs.Alone.{fits}

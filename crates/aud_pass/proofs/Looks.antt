@@ -1,6 +1,6 @@
 -- What a look at the answers tells its user.
 use Rattle.std.specs.Prelude.{nat_lt, ◌==◌, if◌then◌else◌}
-use Rattle.std.proofs.Common.{◌≡◌, ◌⊎◌, inl, inr, ℕ, ◌+◌, ◌-◌, ◌<◌, ◌≤◌, List, length, Option, Some, None, Result, Ok, Err, Bool, true, false, refl, sym, ap, ◌∙◌, subst, subst₂, arith}
+use Rattle.std.proofs.Common.{◌≡◌, inl, inr, ◌-◌, ◌<◌, List, length, Option, Some, None, Result, Ok, Err, Bool, true, false, refl, sym, ap, subst, subst₂, arith}
 use Rattle.aud_bench.specs.declared.request.Answer.{Answer}
 use Rattle.aud_bench.proofs.Truths.{eq_true}
 use Rattle.aud_hall.specs.Halls.{Place, place_at}
@@ -12,7 +12,7 @@ use Rattle.aud_pass.specs.declared.got.Got.TheVariants.{Idle, New, Busy}
 use Rattle.aud_pass.specs.declared.fault.DeskFault.{DeskFault}
 use Rattle.aud_pass.specs.declared.fault.DeskFault.TheVariants as fault
 use Rattle.aud_pass.specs.Passed.{Passed, is_over, IsGot}
-use Rattle.aud_pass.specs.Replies.{IsWhole, IsAwaited, Grows, IsLost, Fails, Collects}
+use Rattle.aud_pass.specs.Replies.{IsAwaited, Grows, IsLost, Fails, Collects}
 use Rattle.aud_pass.specs.Sections.{not_there, Collected, collected_by, collected, IsNew, CollectsIn}
 use Rattle.aud_pass.proofs.Overs.{front_longer}
 use Rattle.aud_pass.proofs.Places.{lost_of, answers_there}

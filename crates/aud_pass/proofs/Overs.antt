@@ -12,7 +12,7 @@ use Rattle.aud_bench.proofs.Told.{alone_never, alone_count}
 use Rattle.aud_bench.proofs.Sessions.{alone_front}
 use Rattle.aud_hall.specs.Numbered.{IsPrefix}
 use Rattle.aud_hall.specs.Told.{AreAnswers}
-use Rattle.aud_hall.proofs.Lists.{two_fronts, front_rest}
+use Rattle.aud_hall.proofs.Lists.{two_fronts}
 pub use Rattle.aud_hall.proofs.Seats.{front_more}
 use Rattle.aud_pass.specs.Passed.{is_over, IsGot}
 

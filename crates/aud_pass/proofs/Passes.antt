@@ -1,10 +1,8 @@
 -- A collect that finds something.
 use Rattle.std.specs.Prelude.{nat_lt, ◌==◌, if◌then◌else◌}
-use Rattle.std.proofs.Common.{◌≡◌, ℕ, ◌+◌, ◌-◌, ◌<◌, ◌≤◌, List, [], ◌∷◌, ◌++◌, length, drop, Option, Some, None, Ok, Err, Bool, true, false, refl, sym, ap, ◌∙◌, subst, arith, length-append, length-drop}
+use Rattle.std.proofs.Common.{◌≡◌, ℕ, ◌+◌, ◌-◌, ◌<◌, List, ◌++◌, length, drop, Option, None, Ok, Err, false, sym, ap, ◌∙◌, subst, arith, length-append, length-drop}
 use Rattle.std.proofs.lemmas.Bool.Decides.{nat_tests}
-use Rattle.aud_text.specs.declared.limits.Limits.{Limits}
 use Rattle.aud_bench.specs.declared.request.Answer.{Answer}
-use Rattle.aud_bench.specs.Alone.{alone}
 use Rattle.aud_hall.specs.Numbered.{IsPrefix}
 use Rattle.aud_hall.specs.Halls.{Place}
 use Rattle.aud_hall.specs.Told.{IsToldAt}
@@ -16,7 +14,7 @@ use Rattle.aud_pass.specs.declared.fault.DeskFault.TheVariants.{Memory}
 use Rattle.aud_pass.specs.Passed.{Passed, is_over, IsGot}
 use Rattle.aud_pass.specs.Replies.{IsWhole, IsAwaited}
 use Rattle.aud_pass.specs.Sections.{not_there, Collected, leaves, takes, collected_by}
-use Rattle.aud_pass.proofs.Overs.{answers_got, front_got, fewer, whole, front_longer}
+use Rattle.aud_pass.proofs.Overs.{answers_got, fewer, whole, front_longer}
 use Rattle.aud_pass.proofs.Places.{answers_there}
 
 abbrev pub with_got : List Answer → Passed → Passed

@@ -1,13 +1,13 @@
 -- A pass and the place of its seat.
 use Rattle.std.specs.Prelude.{nat_lt, ◌&&◌, ◌==◌, not, if◌then◌else◌}
-use Rattle.std.proofs.Common.{◌≡◌, ℕ, ◌+◌, ◌<◌, ◌≤◌, List, [], ◌∷◌, ◌++◌, length, drop, Option, Some, None, Bool, true, false, refl, sym, ap, ◌∙◌, subst, arith, append-nil, length-append}
+use Rattle.std.proofs.Common.{◌≡◌, ℕ, ◌+◌, ◌≤◌, List, [], ◌∷◌, ◌++◌, length, drop, Option, Some, None, Bool, true, false, refl, sym, ap, ◌∙◌, subst, arith, append-nil, length-append}
 use Rattle.aud_text.specs.declared.limits.Limits.{Limits}
 use Rattle.aud_bench.specs.declared.request.Request.{Request}
 use Rattle.aud_bench.specs.declared.request.Answer.{Answer}
 use Rattle.aud_bench.specs.Same.{same_limits}
 use Rattle.aud_bench.proofs.Sameness.{same_limits_is}
 use Rattle.aud_hall.specs.Numbered.{IsPrefix}
-use Rattle.aud_hall.specs.Replies.{Reply, Answers, Then}
+use Rattle.aud_hall.specs.Replies.{Answers, Then}
 use Rattle.aud_hall.specs.Seats.{Seat, has_closed, collected}
 use Rattle.aud_hall.specs.CheckIns.{first_difference}
 use Rattle.aud_hall.specs.Halls.{Place, at_seat, with_place, at_place}

@@ -1,17 +1,15 @@
 -- Alternatives that are picked, and those that have a call.
-use Rattle.std.proofs.Common.{◌≡◌, ℕ, List, [], ◌∷◌, ◌+◌, length, Bool, true, false, cond, ◌&&◌, filter, find, Option, Some, None, Result, is_some, refl, ap, ◌∙◌}
-use Rattle.std.specs.Prelude.{nat_eq}
+use Rattle.std.proofs.Common.{◌≡◌, ℕ, List, [], ◌∷◌, Bool, true, false, cond, filter, find, Option, Some, None, Result, refl, ap, ◌∙◌}
 use Rattle.aud_text.specs.declared.raise.Raise.{Raise}
 use Rattle.aud_typed.specs.Tree.{Plan}
 use Rattle.aud_meaning.specs.declared.state.OpenAccept.{OpenAccept}
-use Rattle.aud_meaning.specs.Configuration.{All, Call}
+use Rattle.aud_meaning.specs.Configuration.{All}
 use Rattle.aud_meaning.specs.Control.{Seen}
 use Rattle.aud_meaning.specs.Evaluation.{Sight}
 use Rattle.aud_meaning.specs.Orders.{Orders}
 use Rattle.aud_meaning.specs.Parts.{Waiting, queue}
 use Rattle.aud_meaning.specs.Run.{has_queue}
 use Rattle.aud_meaning.specs.Tasks as effect
-use Rattle.aud_state.specs.Queues.{oldest}
 use Rattle.aud_select.specs.Selecting.{has_call}
 
 -- the first of those that pass accepts a call

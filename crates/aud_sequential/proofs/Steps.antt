@@ -1,5 +1,5 @@
 -- What a step does to a task's part is what the task does alone.
-use Rattle.std.proofs.Common.{◌≡◌, ℕ, zero, suc, ℤ, List, [], ◌∷◌, Option, Some, None, Bool, true, false, if◌then◌else◌, length, take, replicate, slice_index_or, nat_lt, nat_le, refl, sym, ap, ◌∙◌, subst}
+use Rattle.std.proofs.Common.{◌≡◌, ℕ, suc, ℤ, List, [], ◌∷◌, Option, Some, None, Bool, true, false, if◌then◌else◌, length, take, replicate, slice_index_or, nat_lt, nat_le, refl, sym, ap, ◌∙◌, subst}
 use Rattle.std.specs.Prelude.{slice_get, int_le, ◌+ℤ◌, ◌++◌, Result}
 use Rattle.aud_text.specs.declared.limits.TheConstants.{FRAMES, OUTPUT}
 use Rattle.aud_text.specs.declared.raise.Raise.{Raise}

@@ -1,6 +1,5 @@
 -- Tasks that rest, as one look tells.
 use Rattle.std.specs.Prelude.{◌≡◌, ℕ, List, Option, Some, None, Bool, true, false, nat_le, not, slice_index_or}
-use Rattle.aud_meaning.specs.declared.state.OpenDelay.{OpenDelay}
 use Rattle.aud_meaning.specs.declared.state.Status.{Status}
 use Rattle.aud_meaning.specs.declared.state.Status.TheVariants.{Accepting, Activating, Calling, Completed, Created, Delaying, Running, Terminated}
 use Rattle.aud_meaning.specs.Configuration.{All, Call, Own}

@@ -14,7 +14,7 @@ use Rattle.aud_hall.specs.CheckIns.{judged, checked}
 use Rattle.aud_hall.specs.Halls.{Place, nobodys, place_at, put_place, with_seat, at_place, at_seat, claiming, freeing, sends_out, sending_place, sending_seat, checking_place, checking_seat}
 use Rattle.aud_hall.specs.Parcels.{Parcel}
 use Rattle.aud_hall.specs.Ties.Right.{IsTrue, IsHome, IsMade, IsRight, IsRightSeat}
-use Rattle.aud_worlds.specs.World.{World, Event, Claim, Submit, SendOut, Slice, CheckIn, Collect, Free, happens, after_all, beginning, parcel_at, in_hall, slicing, coming_in, checking}
+use Rattle.aud_worlds.specs.World.{World, Event, Claim, Submit, SendOut, Slice, CheckIn, Collect, Free, happens, after_all, beginning, parcel_at, in_hall, slicing, checking}
 use Rattle.aud_worlds.specs.Taken.{Last, nothing_done, last_claimed, last_taken, last_in, last_after, last_from, last_is, IsOfLast, LastLaw}
 use Rattle.aud_worlds.specs.Ties.Worlds.{IsRightPlace, IsRightWorld}
 use Rattle.aud_bench.proofs.Made.{none_done}

@@ -14,7 +14,7 @@ use Rattle.aud_worlds.specs.declared.event.Event.TheVariants as call
 use Rattle.aud_worlds.specs.declared.reply.Reply.{Reply as InMemory}
 use Rattle.aud_worlds.specs.declared.reply.Reply.TheVariants as in_memory
 use Rattle.aud_worlds.specs.World as world
-use Rattle.aud_worlds.specs.World.{World, SendOut, Slice, CheckIn, in_hall, sending_away, slicing, checking, coming_in, out_after, parcels}
+use Rattle.aud_worlds.specs.World.{World, SendOut, Slice, CheckIn, sending_away, slicing, checking, coming_in, out_after, parcels}
 use Rattle.aud_worlds.specs.Ties.Calls.{Told, told_by, plain_reply, IsRun}
 use Rattle.aud_worlds.specs.Ties.Runs.{seen, Makes, slicing_there, SlicesThere, left_after, ChecksThere}
 use Rattle.aud_hall.proofs.Places.{at_here, at_past, put_is, set_same}

@@ -11,7 +11,7 @@ use Rattle.aud_syntax.specs.declared.tree.Relational.{Relational}
 use Rattle.aud_syntax.specs.declared.tree.Relational.TheVariants.{Equal, Unequal, Less, AtMost, Greater, AtLeast}
 use Rattle.aud_syntax.specs.declared.tree.Connective.{Connective}
 use Rattle.aud_syntax.specs.declared.tree.Connective.TheVariants.{And, Or, Xor, AndThen, OrElse}
-use Rattle.aud_syntax.specs.Plain.{Expression, alone, connected, Relations, no_relations, more_relations, Relation, unrelated, related, Simple, simple, added, multiplied, Primary, name, attribute, group, Name, named, part, no_expression, an_expression, Declaration, object, constant, Statement, null, assign, call, Body, Unit, unit, Statements, Arms, no_arms, more_arms, if_then, forever, while, loop, exit}
+use Rattle.aud_syntax.specs.Plain.{Expression, alone, connected, Relations, no_relations, more_relations, Relation, unrelated, related, Simple, simple, added, multiplied, Primary, name, attribute, group, Name, named, part, no_expression, an_expression, Declaration, object, constant, Statement, null, assign, call, Body, Unit, unit, Statements, no_arms, more_arms, if_then, forever, while, loop, exit}
 use Rattle.aud_syntax.specs.Plain as m
 use Rattle.aud_grammar.specs.Grammar as g
 use Rattle.aud_grammar.specs.Actions.{the_unit}

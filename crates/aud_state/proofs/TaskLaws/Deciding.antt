@@ -1,5 +1,5 @@
 -- The barrier of an entry, as it is evaluated.
-use Rattle.std.proofs.Common.{◌≡◌, ℕ, zero, suc, ◌≤◌, List, [], ◌∷◌, length, map, Bool, true, false, Option, Some, None, Result, Ok, refl, ap, sym, ◌∙◌, subst, slice_get, slice_index_or}
+use Rattle.std.proofs.Common.{◌≡◌, ℕ, zero, suc, ◌≤◌, List, [], ◌∷◌, length, map, Bool, true, false, Some, None, Result, Ok, refl, ap, sym, ◌∙◌, subst, slice_get, slice_index_or}
 use Rattle.aud_text.specs.declared.raise.Raise.{Raise}
 use Rattle.aud_meaning.specs.Configuration.{All, Frame}
 use Rattle.aud_meaning.specs.Evaluation.{Sight}

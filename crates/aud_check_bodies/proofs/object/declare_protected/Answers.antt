@@ -1,4 +1,4 @@
-use Rattle.std.specs.Prelude.{ℕ, List, ◌∷◌, [], ◌++◌, map, IfOk, OnOk, Vec}
+use Rattle.std.specs.Prelude.{ℕ, ◌∷◌, [], ◌++◌, map, IfOk, OnOk, Vec}
 use Rattle.std.specs.Global.{Global}
 use Rattle.std.proofs.Common.{◌≡◌, ap, subst, ◌∙◌}
 use Rattle.aud_syntax.specs.Ties.View.{plain_operation, plain_private}

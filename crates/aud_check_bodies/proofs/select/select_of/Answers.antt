@@ -1,13 +1,11 @@
 use Rattle.std.specs.Prelude.{◌∷◌, List}
 use Rattle.std.proofs.Common.{ap, ◌∙◌}
 use Rattle.aud_typed.specs.declared.program.Alternative.{Alternative}
-use Rattle.aud_typed.specs.declared.program.SelectStatement.{out-roll-SelectStatement}
 use Rattle.aud_typed.specs.declared.program.Statement.TheVariants.{Select}
 use Rattle.aud_typed.specs.Tree as tree
 use Rattle.aud_typed.specs.Ties.View.{plain_statement, select_in, alternatives_in}
 use Rattle.aud_typed.proofs.Opened.{select_open}
-use Rattle.aud_check_bodies.specs.Selects.{alternatives_of}
-use Rattle.aud_check_bodies.specs.Ties.Arms.{plain_alternative, plain_alternatives, plain_items}
+use Rattle.aud_check_bodies.specs.Ties.Arms.{plain_items}
 use Rattle.aud_typing.proofs.Notes.{boxes}
 use Rattle.aud_check_bodies.proofs.Parts.{alternatives_parts}
 use Rattle.aud_check_bodies.proofs.select.select_of.Goals as goal

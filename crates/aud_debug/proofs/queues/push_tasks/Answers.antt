@@ -1,10 +1,7 @@
-use Rattle.std.proofs.Common.{◌≡◌, ◌+◌, List, ℕ, ap, refl, ◌∙◌, subst, arith}
+use Rattle.std.proofs.Common.{◌+◌, ap, refl, ◌∙◌, arith}
 use Rattle.aud_typed.specs.Ties.View.{plain_program}
 use Rattle.aud_meaning.specs.declared.state.Owner.TheVariants as owner
 use Rattle.aud_meaning.specs.Listings.{entries_by}
-use Rattle.aud_debug.specs.Listed.{ended}
-use Rattle.aud_debug.specs.Ties.Pages.{AddsLines}
-use Rattle.aud_debug.specs.Ties.Rows.{entry_lines}
 use Rattle.aud_debug.proofs.Ended.{all_come}
 use Rattle.aud_debug.proofs.Pages.{comes_more}
 use Rattle.aud_debug.proofs.Queued.{of_task, tasks_from, tasks_next, tasks_past}

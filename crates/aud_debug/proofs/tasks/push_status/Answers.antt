@@ -1,4 +1,4 @@
-use Rattle.std.proofs.Common.{◌++◌, append_assoc, ap, refl, ◌∙◌}
+use Rattle.std.proofs.Common.{◌++◌, append_assoc, ap, ◌∙◌}
 use Rattle.std.proofs.lemmas.Result.{on_ok_weaker}
 use Rattle.aud_typed.specs.Ties.View.{plain_program}
 use Rattle.aud_meaning.specs.Listings.{abnormal_word}

@@ -1,4 +1,4 @@
-use Rattle.std.proofs.Common.{map, refl, subst, ap, sym, ◌∙◌}
+use Rattle.std.proofs.Common.{map, refl, ap, ◌∙◌}
 use Rattle.aud_code.specs.Flat.{decided_by}
 use Rattle.aud_code.specs.View.{plain_line}
 use Rattle.aud_expr.proofs.Instructions.{scene_of}

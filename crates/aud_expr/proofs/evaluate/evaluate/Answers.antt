@@ -1,7 +1,6 @@
 use Rattle.std.proofs.Common.{map, refl, subst, sym}
-use Rattle.aud_code.specs.Flat.{FlatLine}
 use Rattle.aud_code.specs.View.{plain_line}
-use Rattle.aud_expr.specs.Flow.{StepFine, ReachesIn, FitsIn}
+use Rattle.aud_expr.specs.Flow.{StepFine}
 use Rattle.aud_expr.proofs.Executed.{in_step}
 use Rattle.aud_expr.proofs.Instructions.{scene_of}
 use Rattle.aud_expr.proofs.Marking.{not_marked}

@@ -1,4 +1,4 @@
-use Rattle.std.proofs.Common.{rules, arith}
+use Rattle.std.proofs.Common.{rules}
 use Rattle.aud_grammar.specs.Ties.Outcome.{o_rule, o_more}
 use Rattle.aud_cursor.proofs.Passing.{exit, turns_none, turns_push, turns_over, word_passes}
 use Rattle.aud_parse.proofs.abort.more_names.Goals as goal

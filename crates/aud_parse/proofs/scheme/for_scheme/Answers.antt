@@ -1,7 +1,7 @@
 use Rattle.std.proofs.Common.{[], ◌∷◌, arith}
 use Rattle.aud_lex.specs.declared.token.Kind.TheVariants as kind
 use Rattle.aud_grammar.specs.Grammar as g
-use Rattle.aud_grammar.specs.Grammar.{Symbol, N, T}
+use Rattle.aud_grammar.specs.Grammar.{N, T}
 use Rattle.aud_grammar.specs.Actions.{token}
 use Rattle.aud_grammar.specs.Ties.Outcome.{o_rule}
 use Rattle.aud_cursor.proofs.Passing.{to, exit}

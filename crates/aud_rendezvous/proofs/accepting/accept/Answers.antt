@@ -1,4 +1,4 @@
-use Rattle.std.proofs.Common.{[], ap, sym, ◌∙◌}
+use Rattle.std.proofs.Common.{ap, sym, ◌∙◌}
 use Rattle.aud_meaning.specs.declared.state.Status.TheVariants.{Accepting}
 use Rattle.aud_meaning.specs.Parts.{blocks, on_own, queue}
 use Rattle.aud_meaning.specs.Tasks as effect

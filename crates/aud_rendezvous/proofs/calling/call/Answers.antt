@@ -1,6 +1,5 @@
-use Rattle.std.proofs.Common.{Bool, if◌then◌else◌, None, Some, ap, sym, ◌∙◌}
-use Rattle.aud_text.specs.declared.raise.Raise.TheVariants.{Program, Tasking}
-use Rattle.aud_meaning.specs.Parts.{call_number, in_action, is_callable, new_call, open_alternatives, own_of, raised_at, stands_at_call}
+use Rattle.std.proofs.Common.{None, Some, ap, sym, ◌∙◌}
+use Rattle.aud_meaning.specs.Parts.{in_action, is_callable, new_call, stands_at_call}
 use Rattle.aud_meaning.specs.Tasks as effect
 use Rattle.aud_code.specs.Control.{going}
 use Rattle.aud_state.specs.View.{made_call}

@@ -1,4 +1,4 @@
-use Rattle.std.specs.Prelude.{ℕ, [], Option, length, map, slice_index_or, slice_set, Some}
+use Rattle.std.specs.Prelude.{ℕ, [], Option, length, map, slice_set, Some}
 use Rattle.std.proofs.Common.{◌≡◌, ◌<◌, ap, arith, ◌∙◌}
 use Rattle.aud_typed.specs.declared.program.Entry.{Entry}
 use Rattle.aud_typed.specs.declared.program.EntryBody.{EntryBody}

@@ -1,7 +1,7 @@
 use Rattle.std.proofs.Common.{◌≡◌, ◌+◌, ℕ, reverse, sym, ap, ◌∙◌, refl, subst, arith}
 use Rattle.aud_meaning.specs.Ties.Part.{Part}
 use Rattle.aud_code.specs.Places.{Spot, goes}
-use Rattle.aud_sequential.specs.Fast.{Free, led, RunsFast}
+use Rattle.aud_sequential.specs.Fast.{Free, RunsFast}
 use Rattle.aud_store.specs.Ties.Stored.{Stored}
 use Rattle.aud_sequential.specs.Parked.{Parked, acting, parked}
 use Rattle.aud_sequential.proofs.FastRuns.{runs_fast}

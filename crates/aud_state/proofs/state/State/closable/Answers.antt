@@ -1,7 +1,7 @@
 use Rattle.std.proofs.Common.{Bool, ap, not, sym, ◌∙◌, arith}
 use Rattle.std.specs.Prelude.{◌&&◌}
 use Rattle.aud_meaning.specs.Configuration.{TaskAt}
-use Rattle.aud_meaning.specs.Parts.{Closable, any, depends, may_terminate}
+use Rattle.aud_meaning.specs.Parts.{Closable, depends, may_terminate}
 use Rattle.aud_code.specs.Places.{Spot}
 use Rattle.aud_state.specs.declared.task.Task.{Task}
 use Rattle.aud_state.specs.View.{plain_task}

@@ -1,5 +1,4 @@
 use Rattle.std.proofs.Common.{◌++◌, ◌∷◌, [], ℕ, List, ap, ◌∙◌}
-use Rattle.aud_meaning.specs.Configuration.{All}
 use Rattle.aud_meaning.specs.Configuration as meaning
 use Rattle.aud_meaning.specs.Parts.{own_of}
 use Rattle.aud_state.proofs.TaskLaws.Changed.{object_made}
