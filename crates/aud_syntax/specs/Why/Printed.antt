@@ -333,7 +333,7 @@ duration_words e = word (codes "delay") ∷ word (codes "DURATION") ∷ (in_pare
 
 abbrev pub delay_words : Delay → List Word
 delay_words (delay_real at x) = seconds_words x
-delay_words (delay_duration at named e) = duration_words e
+delay_words (delay_duration at name_at e) = duration_words e
 
 -- RM 9.8
 abbrev pub more_names_words : Names → List Word
