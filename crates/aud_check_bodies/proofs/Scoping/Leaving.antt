@@ -48,6 +48,7 @@ use Rattle.aud_check_bodies.specs.declared.call.Callee.TheVariants.{Procedure, E
 use Rattle.aud_check_bodies.specs.Declarations.{Declared, objects_as, arrays_as, array_elaborations, task_elaborations, tasks_meant, task_type_meant, subtype_meant, arrays_kind, tasks_kind, marked}
 use Rattle.aud_check_bodies.specs.Delays as delays
 use Rattle.aud_check_bodies.specs.Entries as e
+use Rattle.aud_check_bodies.specs.Formals.{body_formals}
 use Rattle.aud_check_bodies.specs.Handlers as handlers
 use Rattle.aud_check_bodies.specs.Handlers.{raised_by, typed_raise, exception_meant}
 use Rattle.aud_check_bodies.specs.Labels.{Labels, is_named, loop_from, exit_loop}
@@ -414,11 +415,11 @@ module _ (tables : ℕ) (some : 0 < tables) where
       → EachUnit tables t.units → Few tables (s.checked_operation_of head at i fs ds b o awaited t).tables → (s.checked_operation_of head at i fs ds b o awaited t).faults ≡ [] → EachUnit tables (s.checked_operation_of head at i fs ds b o awaited t).tables.units
   operation_of_numbers head at i fs ds b o awaited t f g h w q =
       let here : Place = operations.operation_place head o in
-      let region = (operations.shape_of head i fs here).region in
+      let region = (operations.shape_of head fs here).region in
       let found = operations.part_awaited head i o awaited in
       let inner : Place = names.place_in region here.regions in
       let entry : Tables = operations.operation_tables head found region here t in
-      let around : Around = s.operation_around head i fs o.object here in
+      let around : Around = s.operation_around head fs o.object here in
       let unit = s.checked_operation_unit head at i fs ds b o.object here inner entry in
       let body = s.entered_body false ds b around inner entry in
       let q1 = (both_none unit.faults [] (both_none (operations.operation_faults head found i fs here t) (unit.faults ++ []) q).1).0 in
@@ -623,11 +624,11 @@ module _ (tables : ℕ) (some : 0 < tables) where
     declaration_numbers (plain.exception first others) n t h w q = record { made = tt; units = h }
     declaration_numbers (plain.procedure at i fs ds b) n t h w q =
         let here : Place = s.procedure_place i n t in
-        let formals = s.procedure_formals i fs here in
+        let formals = body_formals fs n in
         let inner : Place = names.place_in formals.region here.regions in
         let kept : Tables = unit_kept formals.profile t in
         let unit = s.checked_unit false at i.name ds b inner kept in
-        let heads = rules.declared_once i.name i.at (names.innermost n).symbols ++ formals.faults in
+        let heads = formals.faults ++ rules.declared_once i.name i.at (names.innermost n).symbols in
         let x = unit_numbers false at i.name ds b inner kept (λ m u. declarations_numbers ds m u) (λ m u. body_of_numbers b nothing_around m u) (unit_more t.units h) w (both_none unit.faults [] (both_none heads (unit.faults ++ []) q).1).0 in
         record { made = tt; units = unit_set tables unit.tables.units (length t.units) unit.made x.units x.made }
     declaration_numbers (plain.task at is_type i x) n t h w q =
@@ -680,5 +681,5 @@ typed_numbers (plain.unit context at name declarations b) q =
     let count = length unit.tables.regions in
     let few : length unit.tables.regions ≤ count = omega arith in
     let own : 0 < count = own_table count declarations b nothing_around place main_tables false few in
-    let x = unit_numbers count own false at name.name declarations b place main_tables (λ m u. declarations_numbers count own declarations m u) (λ m u. body_of_numbers count own b nothing_around m u) ((own, (tt, (tt, tt))), tt) few q in
+    let x = unit_numbers count own false at name.name declarations b place main_tables (λ m u. declarations_numbers count own declarations m u) (λ m u. body_of_numbers count own b nothing_around m u) ((own, (tt, (tt, tt))), tt) few (both_none (rules.program_named name.name name.at) unit.faults q).1 in
     units_numbers count (with_unit 0 unit.made unit.tables).units (unit_set count unit.tables.units 0 unit.made x.units x.made)

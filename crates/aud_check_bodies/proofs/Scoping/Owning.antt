@@ -22,6 +22,7 @@ use Rattle.aud_check_bodies.specs.Tables.{Tables, Outcome, no_body, region_kept,
 use Rattle.aud_check_bodies.specs.Accepts as accepts
 use Rattle.aud_check_bodies.specs.Declarations as d
 use Rattle.aud_check_bodies.specs.Entries as e
+use Rattle.aud_check_bodies.specs.Formals.{body_formals}
 use Rattle.aud_check_bodies.specs.Objects as objects
 use Rattle.aud_check_bodies.specs.Operations as operations
 use Rattle.aud_check_bodies.specs.Operations.{Head, of_entry, of_procedure, of_function, BodyPlaces}
@@ -268,8 +269,8 @@ operation_added number is_private (plain.entry_operation y) outer o h =
     let t : Tables = o.tables in
     let new = object_entry_owned (entries_of_tasks t.tasks ++ []) (entries_of_objects t.objects ++ o.entries) t.entries (length t.units) (length (t.units ++ no_body ∷ [])) y.name.name (length_push t.units no_body) h in
     subst (λ l. OwnedIn (entries_of_tasks t.tasks ++ []) l (t.entries ++ protected_entry y.name.name (length t.units) ∷ []) (length (t.units ++ no_body ∷ []))) (added_last (entries_of_objects t.objects) o.entries (length t.entries)) new
-operation_added number is_private (plain.procedure_operation i fs) outer o h = unit_more [] o.entries (objects.operation_formals i fs o.own (objects.further_out o outer)).profile o.tables h
-operation_added number is_private (plain.function_operation i fs mark) outer o h = unit_more [] o.entries (objects.function_signature i fs mark o.own (objects.further_out o outer)).0 o.tables h
+operation_added number is_private (plain.procedure_operation i fs) outer o h = unit_more [] o.entries (objects.operation_formals fs o.own (objects.further_out o outer)).profile o.tables h
+operation_added number is_private (plain.function_operation i fs mark) outer o h = unit_more [] o.entries (objects.function_signature fs mark o.own (objects.further_out o outer)).0 o.tables h
 
 operations_added : (number : ℕ) (xs : List plain.Operation) (outer : List Region) (o : objects.ObjectDeclared) → PartsAre o → PartsAre (objects.declared_operations number xs outer o)
 operations_added number [] outer o h = h
@@ -316,11 +317,11 @@ operation_of_owned : (head : Head) (at : Pos) (i : Ident) (fs : List plain.Forma
     → ((m : Place) (u : Tables) → Owned u → Owned (s.checked_declarations ds m u).tables) → ((within : Around) (m : Place) (u : Tables) → Owned u → Owned (s.checked_body b within m u).tables) → Owned t → Owned (s.checked_operation_of head at i fs ds b o awaited t).tables
 operation_of_owned head at i fs ds b o awaited t f g h =
     let here : Place = operations.operation_place head o in
-    let region = (operations.shape_of head i fs here).region in
+    let region = (operations.shape_of head fs here).region in
     let found = operations.part_awaited head i o awaited in
     let inner : Place = names.place_in region here.regions in
     let entry : Tables = operations.operation_tables head found region here t in
-    let around : Around = s.operation_around head i fs o.object here in
+    let around : Around = s.operation_around head fs o.object here in
     let unit = s.checked_operation_unit head at i fs ds b o.object here inner entry in
     unit_put (operations.operation_unit found t) unit.made unit.tables (entered_owned false ds b around inner entry f (g around) (barred_owned found (operations.barrier_of head region here) (operations.operation_kept found t) (kept_owned found t h)))
 
@@ -391,7 +392,7 @@ mutual
   declaration_owned (plain.exception first others) n t h = h
   declaration_owned (plain.procedure at i fs ds b) n t h =
       let here : Place = s.procedure_place i n t in
-      let formals = s.procedure_formals i fs here in
+      let formals = body_formals fs n in
       let inner : Place = names.place_in formals.region here.regions in
       let kept : Tables = unit_kept formals.profile t in
       let unit = s.checked_unit false at i.name ds b inner kept in
