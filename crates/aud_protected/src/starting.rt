@@ -10,15 +10,15 @@ ghost use Rattle.aud_meaning.specs.Tasks as effect;
 ghost use Rattle.aud_code.specs.Control.{going};
 ghost use Rattle.aud_code.specs.Places.{Spot};
 ghost use Rattle.aud_store.specs.declared.purpose.Purpose.TheVariants.{Operation};
-ghost use Rattle.aud_state.specs.View.{made_call};
+ghost use Rattle.aud_calls.specs.View.{made_call};
 ghost use Rattle.aud_protected.specs.Counting.{most_asked};
 
 use crate::barriers::Barriers;
 use crate::entering::{display_of, enter_entry, open};
 use crate::servicing::service;
+use aud_calls::calls::NewCall;
 use aud_code::sound_code::SoundCode;
 use aud_meaning::state::{Form, Owner, Restart};
-use aud_state::calls::NewCall;
 use aud_state::state::State;
 use aud_store::purpose::{Purpose, Returns};
 use aud_store::target::{Back, Target};

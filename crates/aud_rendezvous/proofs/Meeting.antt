@@ -12,8 +12,8 @@ use Rattle.aud_meaning.specs.Evaluation.{Sight}
 use Rattle.aud_meaning.specs.Orders.{Orders}
 use Rattle.aud_meaning.specs.Parts.{Waiting, arrives, call_number, call_of, cancels, fails, in_action, is_callable, new_call, on_call, open_alternatives, own_of, raised_at, stands_at_call}
 use Rattle.aud_meaning.specs.Tasks as effect
+use Rattle.aud_calls.specs.Queues.{oldest}
 use Rattle.aud_state.specs.Chosen.{chosen}
-use Rattle.aud_state.specs.Queues.{oldest}
 
 module _ {C : Type 0} (go : Orders C) (plan : Plan) (barrier : ℕ → Sight → Result Bool Raise) where
   -- where the entry is open, the alternative is known that takes the call

@@ -8,12 +8,12 @@ ghost use Rattle.aud_meaning.specs.Orders.{Orders};
 ghost use Rattle.aud_meaning.specs.Tasks as effect;
 ghost use Rattle.aud_code.specs.Control.{going};
 ghost use Rattle.aud_code.specs.Places.{Spot};
-ghost use Rattle.aud_state.specs.View.{made_call};
+ghost use Rattle.aud_calls.specs.View.{made_call};
 
 use crate::accepting::meet;
+use aud_calls::calls::NewCall;
 use aud_code::sound_code::SoundCode;
 use aud_meaning::state::Form;
-use aud_state::calls::NewCall;
 use aud_state::state::State;
 use aud_text::raise::Raise;
 use aud_typed::program::Exception;

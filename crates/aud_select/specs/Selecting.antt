@@ -3,7 +3,7 @@ use Rattle.std.specs.Prelude.{ℕ, List, ◌+◌, length, is_some, Bool, not, �
 use Rattle.aud_meaning.specs.declared.state.OpenAccept.{OpenAccept}
 use Rattle.aud_meaning.specs.Configuration.{Call, Waits}
 use Rattle.aud_meaning.specs.Parts.{queue}
-use Rattle.aud_state.specs.Queues.{oldest}
+use Rattle.aud_calls.specs.Queues.{oldest}
 
 -- there is none
 abbrev pub is_none_open : Waits → Bool

@@ -1,7 +1,6 @@
 -- What is given back is over.
-use Rattle.std.proofs.Common.{◌≡◌, ◌+◌, ◌<◌, ℕ, zero, suc, List, [], ◌∷◌, ◌++◌, length, drop, get_or, slice_index_or, Bool, true, false, if◌then◌else◌, refl, ap, sym, ◌∙◌, inl, arith}
+use Rattle.std.proofs.Common.{◌≡◌, ◌+◌, ℕ, zero, suc, List, [], ◌∷◌, ◌++◌, length, slice_index_or, Bool, true, false, if◌then◌else◌, refl, ap, sym, ◌∙◌, inl, arith}
 use Rattle.std.proofs.lemmas.Bool.{or_left, or_right}
-use Rattle.std.proofs.lemmas.List.{at_drop_all, at_drop_more}
 use Rattle.std.specs.Prelude.{◌||◌, ◌&&◌, nat_eq, not}
 use Rattle.aud_meaning.specs.Configuration.{Frame, TaskAt, All}
 use Rattle.aud_meaning.specs.Parts.{any, contains, depends, owns}
@@ -10,13 +9,10 @@ use Rattle.aud_store.specs.Ties.Frames.{named_from, only_named}
 use Rattle.aud_over.specs.Law.{LikeCalls, LikeFrames}
 use Rattle.aud_over.specs.Over.{forgotten, frame_if, frames_left, is_named, is_served, object_names, own_names, with_kept}
 use Rattle.aud_over.proofs.Like.{kept_left}
+use Rattle.aud_calls.proofs.Lists.{append_names, or_joined}
 use Rattle.aud_state.specs.Held.{given_back, is_held, is_kept, keeps}
 
 -- Numbers that come after others.
-
-or_joined : (a b c : Bool) → ((a || b) || c) ≡ (a || (b || c))
-or_joined true b c = refl
-or_joined false b c = refl
 
 pub turned_behind : (a b c : Bool) → ((a || b) || c) ≡ (a || (c || b))
 turned_behind true b c = refl
@@ -24,10 +20,6 @@ turned_behind false true true = refl
 turned_behind false true false = refl
 turned_behind false false true = refl
 turned_behind false false false = refl
-
-pub append_names : (f : ℕ) (xs ys : List ℕ) → contains f (xs ++ ys) ≡ (contains f xs || contains f ys)
-append_names f [] ys = refl
-append_names f (x ∷ xs) ys = ap (λ b. nat_eq f x || b) (append_names f xs ys) ∙ sym (or_joined (nat_eq f x) (contains f xs) (contains f ys))
 
 -- of one task
 pub kept_more : (f : ℕ) (old mid new masters : List ℕ) (names over : Bool) → contains f mid ≡ (contains f old || names) → new ≡ mid ++ (if over then [] else masters) → contains f new ≡ (contains f old || (names || (not over && contains f masters)))
@@ -40,25 +32,6 @@ kept_more f old mid new masters names over told is =
     among : (b : Bool) → contains f (if b then [] else masters) ≡ (not b && contains f masters)
     among true = refl
     among false = refl
-
--- of one object
-pub around_more : (f : ℕ) (old display new given : List ℕ) → new ≡ old ++ display → display ≡ given → contains f new ≡ (contains f old || contains f given)
-around_more f old display new given is same = ap (contains f) is ∙ append_names f old display ∙ ap (λ l. contains f old || contains f l) same
-
--- of one more in a list
-pub one_more : {A : Type 0} (p : A → Bool) (xs : List A) (i : ℕ) (x : A) (old new : Bool) → i < length xs → x ≡ get_or xs i x → new ≡ (old || p x) → (new || any p (drop (i + 1) xs)) ≡ (old || any p (drop i xs))
-one_more p xs i x old new within is told =
-    ap (λ b. b || any p (drop (i + 1) xs)) told
-    ∙ or_joined old (p x) (any p (drop (i + 1) xs))
-    ∙ ap (λ b. old || (b || any p (drop (i + 1) xs))) (ap p is)
-    ∙ ap (λ b. old || b) (sym (at_drop_more (any p) xs i x within))
-
-pub all_more : {A : Type 0} (p : A → Bool) (xs : List A) (i : ℕ) (old : Bool) → length xs ≡ i → (old || any p (drop i xs)) ≡ old
-all_more p xs i old is = ap (λ b. old || b) (at_drop_all (any p) xs i (omega (arith, is))) ∙ by old
-  where
-    by : (b : Bool) → (b || false) ≡ b
-    by true = refl
-    by false = refl
 
 -- Frames that are left.
 

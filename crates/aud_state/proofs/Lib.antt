@@ -1,4 +1,4 @@
-pub mod CallLaws
+pub mod CallsGiven
 pub mod Giving
 pub mod Hitting
 pub mod Numbered

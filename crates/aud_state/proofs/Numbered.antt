@@ -2,11 +2,10 @@
 use Rattle.std.proofs.Common.{◌≡◌, ◌+◌, ◌<◌, ℕ, zero, suc, List, [], ◌∷◌, ◌++◌, length, drop, map, get_or, Bool, true, false, if◌then◌else◌, add-one, append_assoc, refl, ap, sym, ◌∙◌, arith}
 use Rattle.std.proofs.lemmas.Bool.{or_right}
 use Rattle.std.proofs.lemmas.List.{at_drop_more}
-use Rattle.std.proofs.lemmas.Cmp.{nat_eq_equiv}
 use Rattle.std.specs.List.{list_any}
-use Rattle.std.specs.Prelude.{◌||◌, nat_eq}
+use Rattle.std.specs.Prelude.{◌||◌}
 use Rattle.aud_meaning.specs.Configuration.{Own}
-use Rattle.aud_meaning.specs.Parts.{any, contains, numbers, owns}
+use Rattle.aud_meaning.specs.Parts.{any, numbers, owns}
 use Rattle.aud_state.specs.declared.task.Task.{Task}
 use Rattle.aud_state.specs.View.{plain_task}
 
@@ -26,11 +25,6 @@ found_more {A} p found xs n x b within is =
     by : (d : Bool) → (if d then found ++ n ∷ [] else found) ++ numbers p (n + 1) rest ≡ found ++ (if d then n ∷ numbers p (suc n) rest else numbers p (suc n) rest)
     by true = append_assoc found (n ∷ []) (numbers p (n + 1) rest) ∙ ap (λ k. found ++ (n ∷ numbers p k rest)) (add-one n)
     by false = ap (λ k. found ++ numbers p k rest) (add-one n)
-
--- a list that contains a number, in the words of a slice
-pub contains_same : (n : ℕ) (ms : List ℕ) → list_any (λ m. nat_eq m n) ms ≡ contains n ms
-contains_same n [] = refl
-contains_same n (m ∷ ms) = ap (λ b. b || list_any (λ k. nat_eq k n) ms) (nat_eq_equiv.symm m n) ∙ ap (λ b. nat_eq n m || b) (contains_same n ms)
 
 pub any_same : {A : Type 0} (p : A → Bool) (xs : List A) → list_any p xs ≡ any p xs
 any_same p [] = refl

@@ -6,6 +6,5 @@ pub mod Opening
 pub mod Reads
 pub mod Resting
 pub mod Held
-pub mod Queues
 pub mod Chosen
 pub mod Returning

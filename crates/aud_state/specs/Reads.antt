@@ -2,8 +2,6 @@
 use Rattle.std.specs.Prelude.{◌≡◌, ℕ, Option, Some, None, Bool, true, false, ◌&&◌, not, if◌then◌else◌}
 use Rattle.aud_text.specs.declared.place.Pos.{Pos}
 use Rattle.aud_typed.specs.Tree.{Plan}
-use Rattle.aud_meaning.specs.declared.state.Form.{Form}
-use Rattle.aud_meaning.specs.declared.state.Form.TheVariants.{Plain, Conditional, TimedTo}
 use Rattle.aud_meaning.specs.declared.state.Owner.{Owner}
 use Rattle.aud_meaning.specs.declared.state.Owner.TheVariants as owner
 use Rattle.aud_meaning.specs.declared.state.Status.TheVariants.{Running}
@@ -17,6 +15,7 @@ use Rattle.aud_meaning.specs.Run.{construct_left, end_kind_by, master_left_by}
 use Rattle.aud_code.specs.Flat.{Flat, coming_at}
 use Rattle.aud_code.specs.Places.{Spot}
 use Rattle.aud_sequential.specs.Next.{place_in}
+use Rattle.aud_calls.specs.Cancelling.{time_by}
 
 -- it runs, is not abnormal, services no object and makes no other task's call again
 pub record IsPlain (own : Own) : Type 0 where
@@ -51,15 +50,10 @@ abbrev pub place_by : Flat → Option (TaskAt Spot) → Pos
 place_by code None = record { line = 0; col = 0 }
 place_by code (Some t) = place_in code t.control.place t.own.pending
 
--- the time from which on a call can be cancelled that does not stay, while it is queued and no action is under way on its object (RM 9.7.2)
-abbrev pub time_by : Form → Option ℕ
-time_by Plain = None
-time_by (Conditional time) = None
-time_by (TimedTo time) = Some time
-
 abbrev pub is_free : Owner → All Spot → Bool
 is_free (owner.Task m) c = true
 is_free (owner.Object o) c = is_idle (object_of o c)
 
+-- the time from which on a call can be cancelled that does not stay, while it is queued and no action is under way on its object (RM 9.7.2)
 abbrev pub cancelled_from : Call → All Spot → Option ℕ
 cancelled_from call c = if is_queued call.state && not call.stays && is_free call.owner c then time_by call.form else None

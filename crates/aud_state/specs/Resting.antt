@@ -5,8 +5,8 @@ use Rattle.aud_meaning.specs.declared.state.Status.TheVariants.{Accepting, Activ
 use Rattle.aud_meaning.specs.Configuration.{All, Call, Own}
 use Rattle.aud_meaning.specs.Parts.{any, no_call, own_of}
 use Rattle.aud_code.specs.Places.{Spot}
+use Rattle.aud_calls.specs.Cancelling.{time_by}
 pub use Rattle.aud_state.specs.Condition.{has_come}
-use Rattle.aud_state.specs.Reads.{time_by}
 
 -- it is not abnormal, and services no object
 abbrev pub IsUndisturbed : Own → Type 0

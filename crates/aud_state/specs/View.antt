@@ -1,30 +1,21 @@
 -- All tasks with what they share in memory, as a configuration.
-use Rattle.std.specs.Prelude.{ℕ, ℤ, List, [], ◌∷◌, ◌++◌, length, map, Option, Some, None, false, if◌then◌else◌}
+use Rattle.std.specs.Prelude.{ℕ, ℤ, List, [], ◌∷◌, ◌++◌, length, map, Option, Some, None, if◌then◌else◌}
 use Rattle.aud_text.specs.declared.raise.Raise.TheVariants.{Tasking}
 use Rattle.aud_typed.specs.declared.program.Exception.TheVariants.{Predefined}
 use Rattle.aud_meaning.specs.declared.state.Pending.{Pending}
 use Rattle.aud_meaning.specs.declared.state.Resumed.{Resumed}
 use Rattle.aud_meaning.specs.declared.state.Status.TheVariants.{Running}
-use Rattle.aud_meaning.specs.declared.state.CallState.TheVariants.{Selected}
 use Rattle.aud_meaning.specs.Effects.{closed, handles, pends}
 use Rattle.aud_meaning.specs.Configuration.{TaskAt, All, Own}
 use Rattle.aud_meaning.specs.Configuration as meaning
 use Rattle.aud_meaning.specs.Orders.{Orders}
-use Rattle.aud_meaning.specs.Parts.{no_call, nobody, number_name, runs}
+use Rattle.aud_meaning.specs.Parts.{nobody, number_name, runs}
 use Rattle.aud_meaning.specs.Ties.Part.{Part, within_own}
 use Rattle.aud_code.specs.Places.{Spot}
-use Rattle.aud_state.specs.declared.calls.Call.{Call}
-use Rattle.aud_state.specs.declared.calls.NewCall.{NewCall}
+use Rattle.aud_calls.specs.View.{Kept}
 use Rattle.aud_state.specs.declared.object.Object.{Object}
-use Rattle.aud_state.specs.declared.slot.Slot.{Slot}
-use Rattle.aud_state.specs.declared.slot.Slot.TheVariants.{GivenBack, Kept as IsInBox}
 use Rattle.aud_state.specs.declared.task.Task.{Task}
 pub use Rattle.aud_state.specs.Condition.{plain_waits}
-
--- all entry calls ever made, and the number of arrivals
-pub record Kept : Type 0 where
-  pub calls : List meaning.Call
-  pub arrivals : ℕ
 
 -- of an element of an array with its number
 abbrev pub element_name : List ℕ → Option ℤ → List ℕ
@@ -55,22 +46,6 @@ plain_own t = record nobody {
 
 abbrev pub plain_task : Task → TaskAt Spot
 plain_task t = record { control = t.parked.control; own = within_own (plain_own t) t.parked.pending t.parked.stack }
-
-abbrev pub plain_call : Call → meaning.Call
-plain_call c = record { caller = c.caller; owner = c.owner; entry = c.entry; arrival = c.arrival; values = c.values.items; unseen = c.unseen.items; backs = c.backs.items; form = c.form; stays = c.stays; at = c.at; state = c.state }
-
--- of one that is given back only that is known
-abbrev pub plain_slot : Slot → meaning.Call
-plain_slot (IsInBox c) = plain_call c.value
-plain_slot (GivenBack state) = record no_call { state = state }
-
-abbrev pub IsKept : Slot → Type 0
-IsKept (IsInBox c) = Unit {0}
-IsKept (GivenBack state) = ⊥
-
--- one that is made just now
-abbrev pub made_call : NewCall → meaning.Call
-made_call c = record { caller = c.caller; owner = c.owner; entry = c.entry; arrival = 0; values = c.values.items; unseen = []; backs = c.backs.items; form = c.form; stays = false; at = c.at; state = Selected }
 
 abbrev pub plain_object : Object → meaning.Object
 plain_object o = record { declaration = o.declaration; display = o.display.items; actions = o.actions.items }

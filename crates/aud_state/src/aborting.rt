@@ -8,8 +8,8 @@ ghost use Rattle.aud_meaning.specs.Orders.{Orders};
 ghost use Rattle.aud_meaning.specs.Parts.{any, contains, on_own, own_of};
 ghost use Rattle.aud_meaning.specs.Tasks as effect;
 ghost use Rattle.aud_code.specs.Places.{Spot};
+ghost use Rattle.aud_calls.specs.Queues.{calls_by};
 ghost use Rattle.aud_state.specs.Aborting.{body_frame};
-ghost use Rattle.aud_state.specs.Queues.{calls_by};
 ghost use Rattle.aud_state.specs.View.{plain_task};
 
 use crate::state::State;

@@ -3,11 +3,11 @@
 ghost use Rattle.std.specs.Prelude.{◌≡◌, map, IfOk, OnOk};
 ghost use Rattle.aud_meaning.specs.declared.state.CallState.TheVariants.{Selected};
 ghost use Rattle.aud_meaning.specs.Parts.{arrives, call_number, call_of, calls_on_object, cancels, new_call, on_call, queue, Waiting};
-ghost use Rattle.aud_state.specs.Queues.{oldest};
-ghost use Rattle.aud_state.specs.View.{made_call};
+ghost use Rattle.aud_calls.specs.Queues.{oldest};
+ghost use Rattle.aud_calls.specs.View.{made_call};
 
-use crate::calls::NewCall;
 use crate::state::State;
+use aud_calls::calls::NewCall;
 use std::alloc::{AllocError, Global};
 
 impl State {

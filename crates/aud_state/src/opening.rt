@@ -9,10 +9,10 @@ ghost use Rattle.aud_sequential.specs.Shown.{plans_of};
 ghost use Rattle.aud_state.specs.Opening.{main_of, opened_main};
 ghost use Rattle.aud_state.specs.View.{plain_task};
 
-use crate::calls::Calls;
 use crate::condition::Condition;
 use crate::state::State;
 use crate::task::{Task, Waits};
+use aud_calls::calls::Calls;
 use aud_code::sound_code::SoundCode;
 use aud_meaning::state::Status;
 use aud_sequential::progress::Progress;

@@ -7,11 +7,12 @@ ghost use Rattle.aud_meaning.specs.Evaluation.{Sight};
 ghost use Rattle.aud_meaning.specs.Parts.{call_of, is_idle, is_queued, is_selected, object_of, own_of};
 ghost use Rattle.aud_code.specs.Places.{Spot};
 ghost use Rattle.aud_store.specs.Ties.Extents.{extent, extent_in};
-ghost use Rattle.aud_state.specs.Reads.{cancelled_from, coming_by, is_free, place_by, time_by, IsOfItsKind, IsPlain, LeavesBy};
+ghost use Rattle.aud_state.specs.Reads.{cancelled_from, coming_by, is_free, place_by, IsOfItsKind, IsPlain, LeavesBy};
 ghost use Rattle.aud_state.specs.View.{element_name, plain_task};
 
 use crate::state::State;
 use crate::task::Task;
+use aud_calls::calls::cancelling::cancel_time;
 use aud_code::sound_code::SoundCode;
 use aud_meaning::state::{
     Again, CallState, Form, OpenDelay, Owner, Pending, Restart, Serving, Status, StepKind,
@@ -255,7 +256,7 @@ impl State {
         ensures { result ≡ cancelled_from (call_of (own_of task self.now).call self.now) self.now }
     {
         let id = self.call(task);
-        if self.is_queued(id) && !self.stays(id) && self.is_free(id) {
+        if self.calls.can_leave(id) && self.is_free(id) {
             cancel_time(self.call_form(id))
         } else {
             None
@@ -312,13 +313,6 @@ impl State {
         ensures { result ≡ (call_of id self.now).state }
     {
         self.calls.state(id)
-    }
-
-    // Whether it is queued.
-    fn is_queued(&self, id: usize) -> bool
-        ensures { result ≡ is_queued (call_of id self.now).state }
-    {
-        matches!(self.call_state(id), CallState::Queued)
     }
 
     /// Whether it stays on its queue whatever happens to its caller (RM 9.5.4).
@@ -378,15 +372,5 @@ impl Task {
         ensures { result ≡ place_by code.now (Some (plain_task self.now)) }
     {
         self.parked.standing().shown_place(code)
-    }
-}
-
-/// The time that a call of this form waits for.
-pub(crate) fn cancel_time(form: Form) -> Option<u64>
-    ensures { result ≡ time_by form }
-{
-    match form {
-        Form::Plain | Form::Conditional(_) => None,
-        Form::TimedTo(time) => Some(time),
     }
 }

@@ -4,10 +4,10 @@ ghost use Rattle.std.specs.Prelude.{◌≡◌, ◌<◌, ◌≤◌, ℕ, length, 
 ghost use Rattle.aud_state.specs.Resting.{is_later, IsUndisturbed, Rests, RestsBy};
 ghost use Rattle.aud_state.specs.View.{plain_task};
 
-use crate::calls::Calls;
-use crate::reads::cancel_time;
 use crate::state::State;
 use crate::task::Task;
+use aud_calls::calls::cancelling::cancel_time;
+use aud_calls::calls::Calls;
 use aud_meaning::state::Status;
 
 impl State {

@@ -1,7 +1,7 @@
 // What expressions see of tasks and queues.
 
-use crate::calls::Calls;
 use crate::task::Task;
+use aud_calls::calls::Calls;
 use aud_expr::facts::Facts;
 
 /// All tasks and all entry calls, lent to an evaluation.

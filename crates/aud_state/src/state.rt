@@ -7,9 +7,9 @@ ghost use Rattle.aud_meaning.specs.Parts.{blocks, no_waits, on_control, on_own, 
 ghost use Rattle.aud_code.specs.Control.{going};
 ghost use Rattle.aud_state.specs.View.{goes_on_behind, handles_it, resumes};
 
-use crate::calls::Calls;
 use crate::object::Object;
 use crate::task::Task;
+use aud_calls::calls::Calls;
 use aud_code::sound_code::SoundCode;
 use aud_meaning::state::Pending;
 use aud_sequential::progress::Progress;

@@ -11,12 +11,12 @@ ghost use Rattle.aud_state.specs.View.{plain_waits};
 ghost use Rattle.aud_tasks.specs.Acting.{DoesAsked};
 
 use crate::compiled::Compiled;
+use aud_calls::calls::NewCall;
 use aud_code::line::CallKind;
 use aud_expr::operands::Operands;
 use aud_meaning::state::{Form, OpenAccept, Owner};
 use aud_rendezvous::{accepting, calling};
 use aud_select::{delaying, selecting};
-use aud_state::calls::NewCall;
 use aud_state::state::State;
 use aud_state::task::Waits;
 use aud_store::target::Back;

@@ -16,10 +16,11 @@ use Rattle.aud_code.specs.Flat.{Flat}
 use Rattle.aud_code.specs.Places.{Spot}
 use Rattle.aud_sequential.specs.Parked.{Parked, acting, parked}
 use Rattle.aud_sequential.specs.Steps.{DoesAsked}
+use Rattle.aud_calls.specs.View.{Kept}
+use Rattle.aud_calls.proofs.Lists.{changed_at}
 use Rattle.aud_state.specs.declared.task.Task.{Task}
 use Rattle.aud_state.specs.declared.object.Object.{Object}
-use Rattle.aud_state.specs.View.{Kept, plain_object, plain_own, plain_task, all_of}
-use Rattle.aud_state.proofs.TaskLaws.Changed.{changed_at}
+use Rattle.aud_state.specs.View.{plain_object, plain_own, plain_task, all_of}
 
 pub got : {A B : Type 0} (view : A → B) (xs : List A) (n : ℕ) (x : A) → n < length xs → x ≡ get_or xs n x → slice_get (map view xs) n ≡ Some (view x)
 got view [] n x within is = absurd (omega (arith, within))

@@ -1,31 +1,16 @@
 -- One task is changed, and what is read of one.
-use Rattle.std.proofs.Common.{◌≡◌, ◌<◌, ◌≤◌, ℕ, zero, suc, ℤ, List, [], ◌∷◌, ◌++◌, length, map, get_or, set, refl, ap, sym, ◌∙◌, arith, slice_index_or}
+use Rattle.std.proofs.Common.{◌≡◌, ◌<◌, ◌≤◌, ℕ, zero, suc, ℤ, List, [], ◌∷◌, ◌++◌, length, map, get_or, set, ap, sym, ◌∙◌, arith, slice_index_or}
 use Rattle.std.proofs.lemmas.List.{map-append}
 use Rattle.aud_meaning.specs.Configuration.{TaskAt, All}
-use Rattle.aud_meaning.specs.Parts.{changed, on_object, on_shared, on_task, nobody, own_of, owns}
+use Rattle.aud_meaning.specs.Parts.{on_object, on_shared, on_task, nobody, own_of, owns}
 use Rattle.aud_meaning.specs.Ties.Part.{Part}
 use Rattle.aud_code.specs.Places.{Spot}
+use Rattle.aud_calls.specs.View.{Kept}
+use Rattle.aud_calls.proofs.Lists.{changed_at, unchanged}
 use Rattle.aud_state.specs.declared.task.Task.{Task}
 use Rattle.aud_meaning.specs.Configuration as meaning
 use Rattle.aud_state.specs.declared.object.Object.{Object}
-use Rattle.aud_state.specs.declared.slot.Slot.{Slot}
-use Rattle.aud_state.specs.View.{Kept, plain_object, plain_slot, plain_task, with_object, all_of}
-
-pub changed_at : {A B : Type 0} (view : A → B) (g : B → B) (xs : List A) (n : ℕ) (x y : A) → n < length xs → view y ≡ g (view (get_or xs n x)) → map view (set xs n y) ≡ changed n g (map view xs)
-changed_at view g [] n x y within new = absurd (omega (arith, within))
-changed_at view g (z ∷ zs) zero x y within new = ap (λ l. l ∷ map view zs) new
-changed_at view g (z ∷ zs) (suc n) x y within new = ap (λ ls. view z ∷ ls) (changed_at view g zs n x y (omega (arith, within)) new)
-
--- one that looks the same
-pub seen_same : {A B : Type 0} (view : A → B) (xs : List A) (n : ℕ) (x y : A) → n < length xs → view y ≡ view (get_or xs n x) → map view (set xs n y) ≡ map view xs
-seen_same view [] n x y within new = absurd (omega (arith, within))
-seen_same view (z ∷ zs) zero x y within new = ap (λ l. l ∷ map view zs) new
-seen_same view (z ∷ zs) (suc n) x y within new = ap (λ ls. view z ∷ ls) (seen_same view zs n x y (omega (arith, within)) new)
-
-pub unchanged : {A B : Type 0} (view : A → B) (g : B → B) (xs : List A) (n : ℕ) → length xs ≤ n → map view xs ≡ changed n g (map view xs)
-unchanged view g [] n past = refl
-unchanged view g (z ∷ zs) zero past = absurd (omega (arith, past))
-unchanged view g (z ∷ zs) (suc n) past = ap (λ ls. view z ∷ ls) (unchanged view g zs n (omega (arith, past)))
+use Rattle.aud_state.specs.View.{plain_object, plain_task, with_object, all_of}
 
 pub task_changed : (f : TaskAt Spot → TaskAt Spot) (ts : List Task) (p : Part Spot) (k : Kept) (os : List Object) (n : ℕ) (x y : Task) (c : All Spot) → n < length ts → x ≡ get_or ts n x → plain_task y ≡ f (plain_task x) → all_of ts p k os ≡ c → all_of (set ts n y) p k os ≡ on_task n f c
 task_changed f ts p k os n x y c within at new is =
@@ -66,19 +51,6 @@ pub own_past : (ts : List Task) (n : ℕ) → length ts ≤ n → slice_index_or
 own_past [] n past = refl
 own_past (y ∷ ys) zero past = absurd (omega (arith, past))
 own_past (y ∷ ys) (suc n) past = own_past ys n (omega (arith, past))
-
--- one call is changed
-abbrev pub kept_of : List Slot → ℕ → Kept
-kept_of calls k = record { calls = map plain_slot calls; arrivals = k }
-
-pub call_changed : (f : meaning.Call → meaning.Call) (calls : List Slot) (k n : ℕ) (x y : Slot) (c : Kept) → n < length calls → x ≡ get_or calls n x → plain_slot y ≡ f (plain_slot x) → kept_of calls k ≡ c → kept_of (set calls n y) k ≡ record c { calls = changed n f c.calls }
-call_changed f calls k n x y c within at new is =
-    ap (λ cs. record (kept_of calls k) { calls = cs }) (changed_at plain_slot f calls n x y within (new ∙ ap (λ z. f (plain_slot z)) at))
-    ∙ ap (λ (w : Kept). record w { calls = changed n f w.calls }) is
-
-pub no_call_there : (f : meaning.Call → meaning.Call) (calls : List Slot) (k n : ℕ) (c : Kept) → length calls ≤ n → kept_of calls k ≡ c → c ≡ record c { calls = changed n f c.calls }
-no_call_there f calls k n c past is =
-    sym is ∙ ap (λ cs. record (kept_of calls k) { calls = cs }) (unchanged plain_slot f calls n past) ∙ ap (λ (w : Kept). record w { calls = changed n f w.calls }) is
 
 -- so it is of all
 pub own_at : (ts : List Task) (p : Part Spot) (k : Kept) (os : List Object) (n : ℕ) (x : Task) (c : All Spot) → n < length ts → x ≡ get_or ts n x → all_of ts p k os ≡ c → own_of n c ≡ (plain_task x).own

@@ -10,9 +10,10 @@ use Rattle.aud_code.specs.Eval.{eval}
 use Rattle.aud_code.specs.Instruction.{PushTruth, no_operands}
 use Rattle.aud_code.specs.Places.{Spot}
 use Rattle.aud_expr.specs.Flow.{InSight, evaluated_in}
+use Rattle.aud_calls.specs.View.{Kept}
 use Rattle.aud_state.specs.declared.object.Object.{Object}
 use Rattle.aud_state.specs.declared.task.Task.{Task}
-use Rattle.aud_state.specs.View.{Kept, plain_task, all_of}
+use Rattle.aud_state.specs.View.{plain_task, all_of}
 
 same_some : {A : Type 0} (x y : A) → Some x ≡ Some y → x ≡ y
 same_some x y e = cc

@@ -12,10 +12,11 @@ use Rattle.aud_code.specs.Places.{Spot}
 use Rattle.aud_code.specs.Sound.{IsStart}
 use Rattle.aud_expr.specs.declared.evaluate.Outcome.{Outcome}
 use Rattle.aud_expr.specs.Flow.{InSight, ended, evaluated_at, evaluated_by, ReachesEnd, FitsEnd, IsMarked}
+use Rattle.aud_calls.specs.View.{Kept}
 use Rattle.aud_state.specs.declared.object.Object.{Object}
 use Rattle.aud_state.specs.declared.task.Task.{Task}
 use Rattle.aud_state.specs.Fast.{scene}
-use Rattle.aud_state.specs.View.{Kept, plain_task, all_of}
+use Rattle.aud_state.specs.View.{plain_task, all_of}
 use Rattle.aud_state.proofs.TaskLaws.Beside.{got, past}
 use Rattle.aud_state.proofs.TaskLaws.Changed.{own_at}
 

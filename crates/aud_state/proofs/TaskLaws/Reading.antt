@@ -11,10 +11,11 @@ use Rattle.aud_meaning.specs.Ties.Stack.{out_of_loops, out_of_loops_by}
 use Rattle.aud_code.specs.Places.{Spot}
 use Rattle.aud_sequential.specs.Next.{IsOfKind}
 use Rattle.aud_sequential.specs.Standing.{IsOfMaster}
+use Rattle.aud_calls.specs.View.{Kept}
 use Rattle.aud_state.specs.declared.task.Task.{Task}
 use Rattle.aud_state.specs.declared.object.Object.{Object}
 use Rattle.aud_state.specs.Reads.{IsOfItsKind, LeavesBy}
-use Rattle.aud_state.specs.View.{Kept, plain_task, all_of}
+use Rattle.aud_state.specs.View.{plain_task, all_of}
 use Rattle.aud_state.proofs.TaskLaws.Beside.{got, past}
 use Rattle.aud_state.proofs.TaskLaws.Changed.{own_got, own_past}
 

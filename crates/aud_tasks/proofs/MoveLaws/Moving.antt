@@ -19,7 +19,8 @@ use Rattle.aud_meaning.specs.Run.{acting, acting_moves, again_left, alternatives
 use Rattle.aud_meaning.specs.Tasks.{barrier_of, eligible, eligible_from, eligible_if, entries_of}
 use Rattle.aud_code.specs.Places.{Spot}
 use Rattle.aud_code.specs.Flat.{Flat, barrier_at, flat_controls}
-use Rattle.aud_state.specs.Reads.{cancelled_from, is_free, time_by, IsPlain}
+use Rattle.aud_calls.specs.Cancelling.{time_by}
+use Rattle.aud_state.specs.Reads.{cancelled_from, is_free, IsPlain}
 use Rattle.aud_masters.specs.Leaving.{leaves_freely, may_leave}
 use Rattle.aud_tasks.specs.declared.turn.Turn.{Turn}
 use Rattle.aud_tasks.specs.declared.turn.Turn.TheVariants.{Acting}

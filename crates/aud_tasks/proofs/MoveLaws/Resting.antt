@@ -14,7 +14,7 @@ use Rattle.aud_meaning.specs.Parts.{any, call_of, is_queued, own_of}
 use Rattle.aud_meaning.specs.Run.{Turn, resting, cancelling, expiring, call_time, call_time_by, own_move, owner_idle, picks, seen, turn_moves}
 use Rattle.aud_code.specs.Places.{Spot}
 use Rattle.aud_code.specs.Flat.{Flat, barrier_at, flat_controls}
-use Rattle.aud_state.specs.Reads.{time_by}
+use Rattle.aud_calls.specs.Cancelling.{time_by}
 use Rattle.aud_state.specs.Resting.{has_come, is_later, Rests, RestsBy}
 use Rattle.aud_tasks.specs.Moving.{moves_of}
 use Rattle.aud_tasks.specs.Turning.{turn_in}

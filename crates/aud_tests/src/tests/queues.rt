@@ -1,9 +1,9 @@
 // Entry calls that arrive in a queue, leave it, and are given back.
 
 use crate::tests::loaded;
+use aud_calls::calls::NewCall;
 use aud_gen::generate;
 use aud_meaning::state::{Form, Owner};
-use aud_state::calls::NewCall;
 use aud_state::state::State;
 use aud_text::place::Pos;
 use std::alloc::{AllocError, Global};

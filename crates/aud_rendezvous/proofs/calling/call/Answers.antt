@@ -2,7 +2,7 @@ use Rattle.std.proofs.Common.{None, Some, ap, sym, ◌∙◌}
 use Rattle.aud_meaning.specs.Parts.{in_action, is_callable, new_call, stands_at_call}
 use Rattle.aud_meaning.specs.Tasks as effect
 use Rattle.aud_code.specs.Control.{going}
-use Rattle.aud_state.specs.View.{made_call}
+use Rattle.aud_calls.specs.View.{made_call}
 use Rattle.aud_rendezvous.proofs.Meeting.{called}
 use Rattle.aud_rendezvous.proofs.calling.call.Goals as goal
 

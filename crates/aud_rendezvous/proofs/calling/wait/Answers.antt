@@ -1,7 +1,7 @@
 use Rattle.std.proofs.Common.{Bool, if◌then◌else◌, ap, sym, ◌∙◌}
 use Rattle.aud_meaning.specs.Parts.{arrives, call_number, new_call, on_control, stands_at_call}
 use Rattle.aud_code.specs.Control.{going}
-use Rattle.aud_state.specs.View.{made_call}
+use Rattle.aud_calls.specs.View.{made_call}
 use Rattle.aud_rendezvous.proofs.calling.wait.Goals as goal
 
 pub returns-then-is_conditional : goal.returns-then-is_conditional

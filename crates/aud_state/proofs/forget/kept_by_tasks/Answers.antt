@@ -1,9 +1,9 @@
 use Rattle.std.proofs.Common.{Bool, sym, ◌∙◌, arith}
 use Rattle.aud_meaning.specs.Parts.{contains}
+use Rattle.aud_calls.proofs.Lists.{all_more, one_more}
 use Rattle.aud_state.specs.declared.task.Task.{Task}
 use Rattle.aud_state.specs.Held.{keeps}
 use Rattle.aud_state.specs.View.{plain_task}
-use Rattle.aud_state.proofs.Giving.{all_more, one_more}
 use Rattle.aud_state.proofs.Numbered.{any_map}
 use Rattle.aud_state.proofs.forget.kept_by_tasks.Goals as goal
 

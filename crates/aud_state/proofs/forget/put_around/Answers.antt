@@ -2,9 +2,9 @@ use Rattle.std.proofs.Common.{Bool, ap, sym, ◌∙◌, arith}
 use Rattle.std.specs.Prelude.{◌||◌}
 use Rattle.aud_meaning.specs.Parts.{contains}
 use Rattle.aud_over.specs.Over.{object_names}
+use Rattle.aud_calls.proofs.Lists.{all_more, around_more, one_more}
 use Rattle.aud_state.specs.declared.object.Object.{Object}
 use Rattle.aud_state.specs.View.{plain_object}
-use Rattle.aud_state.proofs.Giving.{all_more, around_more, one_more}
 use Rattle.aud_state.proofs.Numbered.{any_map}
 use Rattle.aud_state.proofs.forget.put_around.Goals as goal
 

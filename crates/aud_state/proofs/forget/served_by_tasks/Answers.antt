@@ -1,9 +1,9 @@
 use Rattle.std.proofs.Common.{Bool, sym, ◌∙◌, arith}
 use Rattle.aud_meaning.specs.Parts.{contains}
 use Rattle.aud_over.specs.Over.{own_serves}
+use Rattle.aud_calls.proofs.Lists.{all_more, one_more}
 use Rattle.aud_state.specs.declared.task.Task.{Task}
 use Rattle.aud_state.specs.View.{plain_task}
-use Rattle.aud_state.proofs.Giving.{all_more, one_more}
 use Rattle.aud_state.proofs.Numbered.{any_own}
 use Rattle.aud_state.proofs.forget.served_by_tasks.Goals as goal
 

@@ -3,9 +3,10 @@ use Rattle.aud_meaning.specs.Configuration.{All}
 use Rattle.aud_meaning.specs.Parts.{contains, owns}
 use Rattle.aud_code.specs.Places.{Spot}
 use Rattle.aud_over.specs.Over.{forgotten, is_served, with_kept}
+use Rattle.aud_calls.specs.View.{Kept}
 use Rattle.aud_state.specs.Held.{calls_given_back}
-use Rattle.aud_state.specs.View.{all_of, Kept, plain_task}
-use Rattle.aud_state.proofs.CallLaws.GivenBack.{calls_left_over, left_same}
+use Rattle.aud_state.specs.View.{all_of, plain_task}
+use Rattle.aud_state.proofs.CallsGiven.{calls_left_over, left_same}
 use Rattle.aud_state.proofs.state.State.forget_calls.Goals as goal
 use Rattle.aud_state.proofs.state.State.forget_calls.Goals.{After-forget}
 

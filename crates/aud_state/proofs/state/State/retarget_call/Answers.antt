@@ -3,7 +3,8 @@ use Rattle.aud_meaning.specs.Configuration.{All}
 use Rattle.aud_meaning.specs.Parts.{on_call}
 use Rattle.aud_meaning.specs.Tasks as effect
 use Rattle.aud_code.specs.Places.{Spot}
-use Rattle.aud_state.specs.View.{all_of, Kept}
+use Rattle.aud_calls.specs.View.{Kept}
+use Rattle.aud_state.specs.View.{all_of}
 use Rattle.aud_state.proofs.state.State.retarget_call.Goals as goal
 
 pub returns : goal.returns

@@ -1,7 +1,7 @@
 use Rattle.std.proofs.Common.{not, ◌&&◌, nat_eq, ap, ◌∙◌}
 use Rattle.std.specs.List.{list_any}
 use Rattle.aud_meaning.specs.Parts.{contains}
-use Rattle.aud_state.proofs.Numbered.{contains_same}
+use Rattle.aud_calls.proofs.Lists.{contains_same}
 use Rattle.aud_state.proofs.task.Task.depends_on.Goals as goal
 
 pub returns-then-not-is_terminated : goal.returns-then-not-is_terminated

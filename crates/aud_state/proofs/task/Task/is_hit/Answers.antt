@@ -1,6 +1,6 @@
 use Rattle.std.proofs.Common.{◌||◌, ◌&&◌, not, ap, sym, ◌∙◌}
 use Rattle.aud_meaning.specs.Parts.{any, contains}
-use Rattle.aud_state.proofs.Numbered.{contains_same}
+use Rattle.aud_calls.proofs.Lists.{contains_same}
 use Rattle.aud_state.proofs.task.Task.is_hit.Goals as goal
 
 pub returns-then-contains : goal.returns-then-contains

@@ -2,7 +2,7 @@ use Rattle.std.proofs.Common.{◌||◌, ◌+◌, ℕ, Bool, nat_eq, drop, get_or
 use Rattle.std.proofs.lemmas.List.{at_drop_more}
 use Rattle.std.specs.List.{list_any}
 use Rattle.aud_meaning.specs.Parts.{any, contains}
-use Rattle.aud_state.proofs.Numbered.{contains_same}
+use Rattle.aud_calls.proofs.Lists.{contains_same}
 use Rattle.aud_state.proofs.task.Task.is_under_any.Goals as goal
 
 pub returns-then-contains : goal.returns-then-contains

@@ -3,7 +3,7 @@ use Rattle.std.specs.Prelude.{◌||◌, nat_eq}
 use Rattle.aud_meaning.specs.declared.state.Restart.{Restart}
 use Rattle.aud_meaning.specs.Parts.{contains}
 use Rattle.aud_over.specs.Over.{is_made_again}
-use Rattle.aud_state.proofs.Giving.{append_names}
+use Rattle.aud_calls.proofs.Lists.{append_names}
 use Rattle.aud_state.proofs.task.Task.put_restart.Goals as goal
 
 none_more : (b : Bool) → b ≡ (b || false)

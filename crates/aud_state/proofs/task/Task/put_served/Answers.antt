@@ -4,9 +4,10 @@ use Rattle.aud_meaning.specs.Parts.{any, contains}
 use Rattle.aud_store.specs.Ties.Stored.{served_in}
 use Rattle.aud_over.specs.Over.{is_for, is_made_again}
 use Rattle.aud_meaning.specs.Configuration.{Opened}
+use Rattle.aud_calls.proofs.Lists.{around_more}
 use Rattle.aud_state.specs.View.{plain_task}
-use Rattle.aud_state.proofs.CallLaws.GivenBack.{serves_same}
-use Rattle.aud_state.proofs.Giving.{around_more, turned_behind}
+use Rattle.aud_state.proofs.CallsGiven.{serves_same}
+use Rattle.aud_state.proofs.Giving.{turned_behind}
 use Rattle.aud_state.proofs.task.Task.put_served.Goals as goal
 
 pub returns : goal.returns

@@ -1,0 +1,2 @@
+pub mod CallLaws
+pub mod Lists

@@ -1,0 +1,12 @@
+use Rattle.std.proofs.Common.{filter, nat_eq, ap, rules, ◌∙◌, slice_index_or}
+use Rattle.std.proofs.lemmas.Fn.{filter_same}
+use Rattle.aud_meaning.specs.Configuration as meaning
+use Rattle.aud_meaning.specs.Parts.{is_queued, no_call}
+use Rattle.aud_calls.proofs.CallLaws.Found.{both_numbers}
+use Rattle.aud_calls.proofs.calls.Calls.all_by.Goals as goal
+
+pub returns : goal.returns
+returns c =
+    filter_same _ _ _ (λ x b f' k. search rules) _ _ c.retain.ensures.filtered
+    ∙ ap (filter (λ id. nat_eq (slice_index_or c.args.self.now.calls id no_call).caller c.args.caller)) c.in_ok-ids.ensures
+    ∙ both_numbers (λ (x : meaning.Call). is_queued x.state) (λ (x : meaning.Call). nat_eq x.caller c.args.caller) no_call c.args.self.now.calls

@@ -1,0 +1,3 @@
+pub mod Cancelling
+pub mod Queues
+pub mod View

@@ -1,5 +1,0 @@
-pub mod Found
-pub mod GivenBack
-pub mod InLine
-pub mod Lines
-pub mod Queueing

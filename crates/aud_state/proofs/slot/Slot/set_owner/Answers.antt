@@ -1,9 +1,0 @@
-use Rattle.std.proofs.Common.{ap, ◌∙◌}
-use Rattle.aud_meaning.specs.Configuration as meaning
-use Rattle.aud_meaning.specs.Tasks as effect
-use Rattle.aud_state.proofs.slot.Slot.set_owner.Goals as goal
-
-pub returns-clause-does : goal.returns-clause-does
-returns-clause-does c = λ go plan barrier.
-    c.give_kept.ensures.does go plan barrier
-    ∙ ap (λ (a : meaning.Call). effect.called_of go plan barrier c.args.owner a) c.keep.ensures.same
