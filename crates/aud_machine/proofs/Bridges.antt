@@ -33,6 +33,7 @@ use Rattle.aud_over.specs.Law.{IsOneOf}
 use Rattle.aud_over.proofs.Coding.{code_looks}
 use Rattle.aud_over.proofs.Left.{moves_left, state_left, step_left, run_left}
 use Rattle.aud_tasks.specs.declared.run.Ran.{Ran}
+use Rattle.aud_tasks.specs.Counting.{most_of_barriers, step_ticks, Counts}
 use Rattle.aud_tasks.specs.Running.{RunsLeaving, Takes, Took}
 use Rattle.aud_tasks.proofs.Running.Taking.{within_kept}
 use Rattle.aud_machine.specs.Shown.{Shown}
@@ -211,6 +212,14 @@ few_taken plan lines limits (Some m) old new taken distinct told =
     let twice = at_most_twice plan lines distinct in
     let few = told.2.few in
     subst (λ (r : Option Ran). Few lines r) (sym told.1) (omega (arith, few, twice))
+
+abbrev Counted : tree.Plan → Flat → Option Move → All Spot → Option Ran → Type 0
+Counted plan lines o old taken = IfSome taken (λ ran. IfSome o (λ m. Counts (step_ticks plan lines old m) (most_of_barriers plan lines) ran.ticks))
+
+pub counted_taken : (plan : tree.Plan) (lines : Flat) (limits : Limits) (o : Option Move) (old new : All Spot) (taken : Option Ran) → Takes plan lines limits o old new taken → Counted plan lines o old taken
+counted_taken plan lines limits None old new None told = tt
+counted_taken plan lines limits None old new (Some ran) told = tt
+counted_taken plan lines limits (Some m) old new taken told = subst (λ (r : Option Ran). Counted plan lines (Some m) old r) (sym told.1) told.2.counts
 
 -- The limits hold of what it does.
 module _ (plan : tree.Plan) (lines : Flat) (limits : Limits) where

@@ -12,6 +12,7 @@ ghost use Rattle.aud_code.specs.Places.{Spot};
 ghost use Rattle.aud_code.specs.Starts.{AreSpots};
 ghost use Rattle.aud_expr.specs.Size.{size};
 ghost use Rattle.aud_over.specs.Over.{forgotten};
+ghost use Rattle.aud_tasks.specs.Counting.{executed, most_of_barriers, step_ticks, Counts};
 ghost use Rattle.aud_machine.specs.Shown.{program_in};
 ghost use Rattle.aud_machine.specs.Shows.{Shows, IfShows, Leaves, RunsFrom, Takes};
 
@@ -294,6 +295,9 @@ impl Machine {
         ensures few { IfOk result (λ ran. ran.steps ≤ n) }
         ensures ticks { IfOk result (λ ran.
             ran.ticks ≤ ran.steps * (2 * size self.old.code)) }
+        ensures counts { IfOk result (λ ran. Counts
+            (executed (program_in self.old).plan self.old.code self.old.limits ran.steps self.old.all)
+            (ran.steps * most_of_barriers (program_in self.old).plan self.old.code) ran.ticks) }
         ensures leaves { Leaves self.old self.new result }
     {
         if self.spent {
@@ -324,6 +328,10 @@ impl Machine {
             (slice_get (moves_in (program_in self.old) c) nth) self.old self.new taken)) }
         ensures ticks { IfOk result (λ taken. IfSome taken (λ ran.
             ran.ticks ≤ 2 * size self.old.code)) }
+        ensures counts { IfOk result (λ taken. IfSome taken (λ ran. let plan = (program_in self.old).plan in
+            IfSome (slice_get (moves_at plan (flat_controls plan self.old.code) self.old.all) nth) (λ m. Counts
+            (step_ticks plan self.old.code self.old.all m)
+            (most_of_barriers plan self.old.code) ran.ticks))) }
         ensures leaves { Leaves self.old self.new result }
     {
         if self.spent {

@@ -11,6 +11,7 @@ ghost use Rattle.aud_code.specs.Places.{Spot};
 ghost use Rattle.aud_code.specs.Sound.{IsStart};
 ghost use Rattle.aud_expr.specs.Flow.{ended, evaluated_at, evaluated_by, ReachesEnd, FitsEnd, IsMarked};
 ghost use Rattle.aud_expr.specs.Size.{instructions_in};
+ghost use Rattle.aud_expr.specs.Ticks.{ticks_at};
 ghost use Rattle.aud_state.specs.Fast.{scene};
 
 use crate::seen::Seen;
@@ -46,6 +47,8 @@ impl State {
             ReachesEnd e.outcome code.now t.control.place) }
         ensures fits { IfOk result (λ e. (t : TaskAt Spot) → slice_get self.now.tasks n ≡ Some t →
             FitsEnd e.outcome code.now t.control.place operands.new) }
+        ensures ticks { IfOk result (λ e. (t : TaskAt Spot) → slice_get self.now.tasks n ≡ Some t →
+            e.ticks ≡ ticks_at code.now t.control.place (scene n self.now)) }
         ensures few { IfOk result (λ e. e.ticks ≤ instructions_in code.now.lines) }
     {
         let found = &self.tasks[n];

@@ -1,6 +1,8 @@
 pub mod Chosen
+pub mod Executing
 pub mod Hindering
 pub mod Moves
+pub mod Seeing
 pub mod Steady
 pub mod Steps
 pub mod Still

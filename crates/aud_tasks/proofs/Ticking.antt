@@ -1,11 +1,11 @@
 -- How many instructions of barriers a step executes.
-use Rattle.std.proofs.Common.{◌≡◌, ◌≤◌, ◌+◌, ℕ, zero, suc, List, [], ◌∷◌, length, slice_index_or, ap, ◌∙◌, arith}
+use Rattle.std.proofs.Common.{◌≡◌, ◌≤◌, ◌+◌, ◌-◌, ◌^◌, min, ℕ, zero, suc, List, [], ◌∷◌, length, slice_index_or, ap, ◌∙◌, arith}
 use Rattle.aud_typed.specs.Tree.{Plan}
 use Rattle.aud_code.specs.Flat.{Flat}
 use Rattle.aud_code.specs.Instruction.{Instruction}
 use Rattle.aud_expr.specs.Size.{instructions_of_all}
 use Rattle.aud_protected.specs.Counting.{most_asked}
-use Rattle.aud_tasks.specs.Counting.{cost_in, most_of_barriers, most_ticks}
+use Rattle.aud_tasks.specs.Counting.{cost_in, most_of_barriers, most_ticks, Counts}
 
 one_of_all : (bs : List (List Instruction)) (n : ℕ) → length (slice_index_or bs n []) ≤ instructions_of_all bs
 one_of_all [] n = omega arith
@@ -29,3 +29,11 @@ module _ (plan p : Plan) (code k : Flat) (program : p ≡ plan) (same : k ≡ co
 
 pub no_more : (plan : Plan) (code : Flat) (ticks : ℕ) → ticks ≤ most_of_barriers plan code → ticks ≤ most_ticks plan code
 no_more plan code ticks few = omega (arith, few)
+
+-- where a step executes none of its own
+pub barriers_alone : (own barriers ticks : ℕ) → own ≡ 0 → ticks ≤ barriers → Counts own barriers ticks
+barriers_alone own barriers ticks none few = record { least = omega (arith, none); most = omega (arith, few) }
+
+-- two counts are added
+pub counts_sum : (a b sum : ℕ) → sum ≡ min (a + b) (2 ^ 64 - 1) → Counts (a + b) 0 sum
+counts_sum a b sum is = record { least = omega (arith, is); most = omega (arith, is) }

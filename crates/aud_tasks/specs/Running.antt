@@ -19,7 +19,7 @@ use Rattle.aud_over.specs.Over.{forgotten}
 use Rattle.aud_tasks.specs.declared.run.Ran.{Ran}
 use Rattle.aud_state.specs.declared.fast.Taken.{Taken}
 use Rattle.aud_tasks.specs.Choices.{IsNoStart}
-use Rattle.aud_tasks.specs.Counting.{most_ticks}
+use Rattle.aud_tasks.specs.Counting.{executed, most_of_barriers, most_ticks, step_ticks, ticks_of_one, Counts}
 use Rattle.aud_state.specs.Reads.{IsPlain}
 use Rattle.aud_tasks.specs.Moving.{IsSimple, has_some, moves_of}
 use Rattle.aud_tasks.specs.Turning.{coming_in}
@@ -30,6 +30,7 @@ pub record RunsLeaving (plan : Plan) (code : Flat) (limits : Limits) (n : ℕ) (
   pub steps : ran.steps + old.steps ≡ new.steps
   pub state : ran.state ≡ state_at plan (flat_controls plan code) new
   pub few : ran.ticks ≤ ran.steps * most_ticks plan code
+  pub counts : Counts (executed plan code limits ran.steps old) (ran.steps * most_of_barriers plan code) ran.ticks
   -- the limits hold of it, if they held before
   pub kept : IsWithin Spot limits old → IsWithin Spot limits new
 
@@ -40,6 +41,7 @@ pub record Took (plan : Plan) (code : Flat) (limits : Limits) (m : Move) (old ne
   pub steps : new.steps ≡ old.steps + 1
   pub state : ran.state ≡ state_at plan (flat_controls plan code) new
   pub few : ran.ticks ≤ most_ticks plan code
+  pub counts : Counts (step_ticks plan code old m) (most_of_barriers plan code) ran.ticks
 
 -- without one nothing has changed
 abbrev pub Takes : Plan → Flat → Limits → Option Move → All Spot → All Spot → Option Ran → Type 0
@@ -63,6 +65,7 @@ pub record RunsFirst (plan : Plan) (code : Flat) (limits : Limits) (n : ℕ) (ol
   pub steps : taken.steps + old.steps ≡ new.steps
   pub within : taken.steps ≤ n
   pub few : taken.ticks ≤ taken.steps * most_ticks plan code
+  pub counts : Counts (executed plan code limits taken.steps old) (taken.steps * most_of_barriers plan code) taken.ticks
 
 -- the steps that come next: at least one, at most n; none where no move is enabled
 abbrev pub RunsNext : Plan → Flat → Limits → ℕ → All Spot → All Spot → Option Taken → Type 0
@@ -144,6 +147,7 @@ pub record Picks (plan : Plan) (code : Flat) (m : Move) (old new : All Spot) : T
   pub others : List Move
   pub moves : moves_at plan (flat_controls plan code) old ≡ first ∷ others
   pub taken : (limits : Limits) → take_one plan (flat_controls plan code) limits first others old ≡ step_with plan (flat_controls plan code) limits new m
+  pub ticks : ticks_of_one plan code first others old ≡ step_ticks plan code new m
   pub there : m.task < length old.tasks
   pub kept : new ≡ record old { choices = new.choices }
 

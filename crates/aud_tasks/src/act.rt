@@ -10,8 +10,10 @@ ghost use Rattle.aud_code.specs.Places.{Spot};
 ghost use Rattle.aud_code.specs.Sound.{counts_of, LastFine};
 ghost use Rattle.aud_code.specs.Starts.{AreSpots};
 ghost use Rattle.aud_expr.specs.Flow.{ended, FitsEnd, ReachesEnd};
+ghost use Rattle.aud_expr.specs.Ticks.{ticks_at};
+ghost use Rattle.aud_state.specs.Fast.{executed_in, scene};
 ghost use Rattle.aud_tasks.specs.Acting.{ActsPending, ActsSo, EndsThere};
-ghost use Rattle.aud_tasks.specs.Counting.{most_of_barriers, most_ticks};
+ghost use Rattle.aud_tasks.specs.Counting.{most_of_barriers, most_ticks, Counts};
 
 use crate::compiled::Compiled;
 use crate::endings::{fail, finish};
@@ -40,6 +42,9 @@ pub(crate) fn act(
         compiled.entry.code.now compiled.entry.limits alternative n state.old state.new) }
     ensures few { IfOk result (λ ticks. ticks ≤ most_ticks
         (plain_program compiled.entry.program.now).plan compiled.entry.code.now) }
+    ensures counts { IfOk result (λ ticks. Counts
+        (executed_in compiled.entry.code.now n state.old)
+        (most_of_barriers (plain_program compiled.entry.program.now).plan compiled.entry.code.now) ticks) }
 {
     match state.pending(n) {
         Some(pending) => propagate(state, alloc, compiled, alternative, n, pending),
@@ -87,6 +92,10 @@ fn execute(
         compiled.entry.code.now compiled.entry.limits alternative n None state.old state.new) }
     ensures few { IfOk result (λ ticks. ticks ≤ most_ticks
         (plain_program compiled.entry.program.now).plan compiled.entry.code.now) }
+    ensures counts { IfOk result (λ ticks. (t : TaskAt Spot) →
+        slice_get state.old.tasks n ≡ Some t → Counts
+        (ticks_at compiled.entry.code.now t.control.place (scene n state.old))
+        (most_of_barriers (plain_program compiled.entry.program.now).plan compiled.entry.code.now) ticks) }
 {
     let place = state.place(n);
     if place >= compiled.code.len() {

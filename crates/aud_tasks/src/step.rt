@@ -9,7 +9,9 @@ ghost use Rattle.aud_code.specs.Flat.{barrier_at, flat_controls};
 ghost use Rattle.aud_code.specs.Sound.{IsSound};
 ghost use Rattle.aud_code.specs.Starts.{AreSpots};
 ghost use Rattle.aud_tasks.specs.Acting.{TakesTurn};
-ghost use Rattle.aud_tasks.specs.Counting.{most_of_barriers, most_ticks};
+ghost use Rattle.aud_state.specs.Fast.{executed_in};
+ghost use Rattle.aud_tasks.specs.Counting.{at_turn, most_of_barriers, most_ticks, step_ticks, Counts};
+ghost use Rattle.aud_tasks.specs.Turning.{turned};
 
 use crate::act::act;
 use crate::barriers::Evaluator;
@@ -44,6 +46,9 @@ pub(crate) fn step(
     ensures spots { IfOk result (λ _. AreSpots compiled.entry.code.now.lines state.new.tasks) }
     ensures few { IfOk result (λ ticks. ticks ≤ most_ticks
         (plain_program compiled.entry.program.now).plan compiled.entry.code.now) }
+    ensures counts { IfOk result (λ ticks. Counts
+        (step_ticks (plain_program compiled.entry.program.now).plan compiled.entry.code.now state.old taken)
+        (most_of_barriers (plain_program compiled.entry.program.now).plan compiled.entry.code.now) ticks) }
 {
     sound_law(compiled.code);
     if taken.task >= state.len() {
@@ -69,6 +74,10 @@ fn take_turn(
         compiled.entry.code.now compiled.entry.limits taken next state.old state.new) }
     ensures few { IfOk result (λ ticks. ticks ≤ most_ticks
         (plain_program compiled.entry.program.now).plan compiled.entry.code.now) }
+    ensures counts { IfOk result (λ ticks. Counts
+        (at_turn (turned (plain_program compiled.entry.program.now).plan compiled.entry.code.now taken.task state.old next)
+        (executed_in compiled.entry.code.now taken.task state.old))
+        (most_of_barriers (plain_program compiled.entry.program.now).plan compiled.entry.code.now) ticks) }
 {
     let n = taken.task;
     match next {

@@ -13,6 +13,7 @@ use Rattle.aud_code.specs.Sound.{IsStart}
 use Rattle.aud_expr.specs.declared.evaluate.Outcome.{Outcome}
 use Rattle.aud_expr.specs.Flow.{InSight, ended, evaluated_at, evaluated_by, ReachesEnd, FitsEnd, IsMarked}
 use Rattle.aud_calls.specs.View.{Kept}
+use Rattle.aud_expr.specs.Ticks.{ticks_at}
 use Rattle.aud_state.specs.declared.object.Object.{Object}
 use Rattle.aud_state.specs.declared.task.Task.{Task}
 use Rattle.aud_state.specs.Fast.{scene}
@@ -63,6 +64,11 @@ module _ (ts : List Task) (p : Part Spot) (k : Kept) (os : List Object) (n : ℕ
     ends code clock objects o e lent display frames all seen framed shows counted h t is_that =
         in_sight lent display frames all seen framed (scene n c) (λ s. ended e o ≡ evaluated_at code place s) clock objects refl shows counted h
         ∙ ap (λ m. evaluated_at code m (scene n c)) (place_of t is_that)
+
+    pub executes : (code : Flat) (clock objects ticks : ℕ) (lent : List Task) (display : List ℕ) (frames : List Frame) → lent ≡ ts → display ≡ x.parked.stack.display → frames ≡ p.frames → c.clock ≡ clock → length c.shared.objects ≡ objects → InSight (facts_in (owns (map plain_task lent)) k.calls) clock objects display frames (λ s. ticks ≡ ticks_at code place s) → (t : TaskAt Spot) → slice_get c.tasks n ≡ Some t → ticks ≡ ticks_at code t.control.place (scene n c)
+    executes code clock objects ticks lent display frames all seen framed shows counted h t is_that =
+        in_sight lent display frames all seen framed (scene n c) (λ s. ticks ≡ ticks_at code place s) clock objects refl shows counted h
+        ∙ ap (λ m. ticks_at code m (scene n c)) (place_of t is_that)
 
     pub marks : (code : Flat) (o : Operands) (is_marked : Bool) (lent : List Task) (display : List ℕ) (frames : List Frame) → lent ≡ ts → display ≡ x.parked.stack.display → frames ≡ p.frames → InSight (facts_in (owns (map plain_task lent)) k.calls) 0 0 display frames (λ s. IsMarked is_marked o (evaluated_by true code place s)) → (t : TaskAt Spot) → slice_get c.tasks n ≡ Some t → IsMarked is_marked o (evaluated_by true code t.control.place (no_scene (sight_of n c)))
     marks code o is_marked lent display frames all seen framed h t is_that =

@@ -22,8 +22,9 @@ use Rattle.aud_over.specs.Over.{forgotten, with_kept}
 use Rattle.aud_over.proofs.Coding.{code_looks}
 use Rattle.aud_over.proofs.Left.{run_left}
 use Rattle.aud_tasks.specs.declared.run.Ran.{Ran}
-use Rattle.aud_tasks.specs.Counting.{most_ticks}
+use Rattle.aud_tasks.specs.Counting.{most_of_barriers, most_ticks, step_ticks, Counts}
 use Rattle.aud_tasks.specs.Running.{RunsLeaving, Takes, RunsOn, IsUnchosen, Picks, Chooses}
+use Rattle.aud_tasks.proofs.Running.Executing.{chosen_ticks, counts_then, unchosen_ticks, RunCounts}
 use Rattle.aud_tasks.proofs.Running.Still.{moves_unchosen}
 use Rattle.aud_tasks.proofs.Running.Whose.{AreOf, moves_of}
 
@@ -178,6 +179,7 @@ module _ (plan : Plan) (code : Flat) (limits : Limits) where
     pub spots : AreSpots code.lines new.tasks
     pub steps_taken : steps + old.steps ≡ new.steps
     pub few : ticks ≤ steps * most_ticks plan code
+    pub counts : RunCounts plan code limits steps old ticks
     pub kept : IsWithin Spot limits old → IsWithin Spot limits new
 
   -- steps keep the limits
@@ -188,9 +190,11 @@ module _ (plan : Plan) (code : Flat) (limits : Limits) where
   within_kept frames calls c h = record { tasks = h.tasks; objects = h.objects; output = h.output; frames = h.frames }
 
   -- frames and calls are given back after some steps more
-  pub runs_more : (n steps more ticks all : ℕ) (old here mid new : All Spot) → RunsSoFar n old here steps ticks → RunsOn plan code limits more here mid → more + here.steps ≡ mid.steps → steps + more ≤ n → AreSpots code.lines mid.tasks → forgotten new ≡ forgotten mid → new ≡ with_kept new.shared.frames new.shared.calls mid → all ≤ (steps + more) * most_ticks plan code → RunsSoFar n old new (steps + more) all
-  runs_more n steps more ticks all old here mid new so_far on counted within spots same others few =
-      let still = ap (λ (c : All Spot). c.steps) others in
+  pub runs_more : (n steps more ticks others all : ℕ) (old here mid new : All Spot) → RunsSoFar n old here steps ticks → RunsOn plan code limits more here mid → more + here.steps ≡ mid.steps → steps + more ≤ n → AreSpots code.lines mid.tasks → forgotten new ≡ forgotten mid → new ≡ with_kept new.shared.frames new.shared.calls mid → all ≤ (steps + more) * most_ticks plan code →
+      RunCounts plan code limits more here others → Counts (ticks + others) 0 all → RunsSoFar n old new (steps + more) all
+  runs_more n steps more ticks others all old here mid new so_far on counted within spots same rest few counts sum =
+      let still = ap (λ (c : All Spot). c.steps) rest in
+      let none : steps ≡ steps + 0 = omega arith in
       record {
         leads = λ k.
             let both : (steps + more) + k ≡ steps + (more + k) = omega arith in
@@ -199,10 +203,11 @@ module _ (plan : Plan) (code : Flat) (limits : Limits) where
             ∙ ap (λ (c : All Spot). forgotten c) (on k)
             ∙ run_left plan C (code_looks plan code) limits k mid new (sym same);
         within = within;
-        spots = subst (λ (c : All Spot). AreSpots code.lines c.tasks) (sym others) spots;
+        spots = subst (λ (c : All Spot). AreSpots code.lines c.tasks) (sym rest) spots;
         steps_taken = omega (arith, so_far.steps_taken, counted, still);
         few = few;
-        kept = λ h. subst (IsWithin Spot limits) (sym others) (within_kept new.shared.frames new.shared.calls mid (on_within more here mid on (so_far.kept h)));
+        counts = counts_then plan code limits steps more ticks others all old here (ap (λ j. forgotten (run_with plan C limits j old)) none ∙ so_far.leads 0) so_far.counts counts sum;
+        kept = λ h. subst (IsWithin Spot limits) (sym rest) (within_kept new.shared.frames new.shared.calls mid (on_within more here mid on (so_far.kept h)));
       }
 
   -- it has ended, where nothing has changed since
@@ -215,6 +220,7 @@ module _ (plan : Plan) (code : Flat) (limits : Limits) where
         steps = omega (arith, so_far.steps_taken, counted);
         state = state;
         few = so_far.few;
+        counts = so_far.counts;
         kept = λ h. subst (IsWithin Spot limits) (sym same) (so_far.kept h);
       }
 
@@ -223,11 +229,11 @@ module _ (plan : Plan) (code : Flat) (limits : Limits) where
   pub takes_none : (c : All Spot) (nth : ℕ) → slice_get (moves_at plan C c) nth ≡ None → Takes plan code limits (slice_get (moves_at plan C c) nth) c c None
   takes_none c nth none = subst (λ o. Takes plan code limits o c c None) (sym none) (refl, refl)
 
-  pub takes_some : (old new : All Spot) (nth : ℕ) (m : Move) (ran : Ran) → slice_get (moves_at plan C old) nth ≡ Some m → new ≡ step_with plan C limits old m → ran.steps ≡ 1 → ran.state ≡ state_at plan C new → ran.ticks ≤ most_ticks plan code →
+  pub takes_some : (old new : All Spot) (nth : ℕ) (m : Move) (ran : Ran) → slice_get (moves_at plan C old) nth ≡ Some m → new ≡ step_with plan C limits old m → ran.steps ≡ 1 → ran.state ≡ state_at plan C new → ran.ticks ≤ most_ticks plan code → Counts (step_ticks plan code old m) (most_of_barriers plan code) ran.ticks →
       Takes plan code limits (slice_get (moves_at plan C old) nth) old new (Some ran)
-  takes_some old new nth m ran at next one state few =
+  takes_some old new nth m ran at next one state few counts =
       let counted = ap (λ (c : All Spot). c.steps) next ∙ step_counted old m (move_there plan code old nth m at) in
-      subst (λ o. Takes plan code limits o old new (Some ran)) (sym at) (ran, refl, record { next = next; one = one; steps = omega (arith, counted); state = state; few = few })
+      subst (λ o. Takes plan code limits o old new (Some ran)) (sym at) (ran, refl, record { next = next; one = one; steps = omega (arith, counted); state = state; few = few; counts = counts })
 
 -- Which move is chosen.
 module _ (plan : Plan) (code : Flat) where
@@ -240,6 +246,7 @@ module _ (plan : Plan) (code : Flat) where
     others = drop 1 (Moves c);
     moves = headed (Moves c) m at;
     taken = λ limits. unchosen_taken plan code limits m (drop 1 (Moves c)) c unchosen;
+    ticks = unchosen_ticks plan code m (drop 1 (Moves c)) c unchosen;
     there = move_there plan code c 0 m at;
     kept = refl;
   }
@@ -270,6 +277,7 @@ module _ (plan : Plan) (code : Flat) where
         taken = λ limits.
             chosen_taken plan code limits first others choice new.choices m old some waits there
             ∙ ap (λ (c : All Spot). step_with plan (flat_controls plan code) limits c m) (sym kept);
+        ticks = chosen_ticks plan code first others choice new.choices m old some waits there ∙ ap (λ (c : All Spot). step_ticks plan code c m) (sym kept);
         there = move_there plan code old (choice % length (Moves old)) m here;
         kept = kept;
       }

@@ -1,8 +1,9 @@
 -- A step is what a task does at its turn.
-use Rattle.std.proofs.Common.{◌≡◌, ◌<◌, ◌≤◌, inl, inr, ℕ, zero, suc, List, [], ◌∷◌, length, drop, Option, None, Some, slice_get, slice_index_or, refl, ap, sym, ◌∙◌, subst, arith}
+use Rattle.std.proofs.Common.{◌≡◌, ◌<◌, ◌≤◌, inl, inr, ℕ, zero, suc, List, [], ◌∷◌, length, drop, Option, None, Some, false, slice_get, slice_index_or, refl, ap, sym, ◌∙◌, subst, arith}
 use Rattle.aud_text.specs.declared.limits.Limits.{Limits}
 use Rattle.aud_typed.specs.Tree.{Plan}
 use Rattle.aud_meaning.specs.Configuration.{TaskAt, All, Own}
+use Rattle.aud_meaning.specs.Control.{Scene}
 use Rattle.aud_meaning.specs.Parts.{nobody, own_of, owns}
 use Rattle.aud_meaning.specs.declared.state.Pending.{Pending}
 use Rattle.aud_meaning.specs.declared.state.Status.TheVariants.{Running}
@@ -12,16 +13,21 @@ use Rattle.aud_meaning.specs.Run.{step_of, step_with, turn_taken}
 use Rattle.aud_meaning.specs.Why.Carried.{carried_by}
 use Rattle.aud_meaning.proofs.Carrying.{carried_law}
 use Rattle.aud_code.specs.Control.{going}
-use Rattle.aud_code.specs.Flat.{EndLine, Flat, FlatLine, asked_at, barrier_at, end_at, end_from, flat_controls, no_end}
+use Rattle.aud_code.specs.Flat.{EndLine, Flat, FlatLine, asked_at, barrier_at, end_at, end_from, flat_controls, instructions_from, no_end}
+use Rattle.aud_code.specs.Instruction.{no_operands}
 use Rattle.aud_code.specs.Frames.{found}
 use Rattle.aud_code.proofs.Framing.{end_found, no_end_found}
 use Rattle.aud_code.specs.Places.{Spot}
 use Rattle.aud_code.specs.Sound.{IsStart}
 use Rattle.aud_code.specs.Starts.{AreSpots, IsPlace, IsSpot}
-use Rattle.aud_state.specs.Fast.{scene}
+use Rattle.aud_expr.specs.Ticks.{ticks_at, ticks_of}
+use Rattle.aud_state.specs.Fast.{executed_at, executed_by, executed_in, scene}
 use Rattle.aud_state.specs.Reads.{IsPlain}
 use Rattle.aud_tasks.specs.Acting.{ActsPending, ActsSo, DoesAsked}
-use Rattle.aud_tasks.specs.Turning.{turn_in}
+use Rattle.aud_tasks.specs.Counting.{at_turn, step_ticks}
+use Rattle.aud_tasks.specs.declared.turn.Turn.{Turn}
+use Rattle.aud_tasks.specs.declared.turn.Turn.TheVariants.{Resting, Closing, Completing, Withdrawing, Serving, Restarting, Expiring, Cancelling, Acting}
+use Rattle.aud_tasks.specs.Turning.{turn_in, turned}
 
 -- the task of a number
 pub task_there : {A : Type 0} (xs : List A) (n : ℕ) → n < length xs → (x : A) × (slice_get xs n ≡ Some x)
@@ -84,6 +90,9 @@ none_from (l ∷ ls) (suc n) past = none_from ls n (omega (arith, past))
 pub no_end_behind : (code : Flat) (place : ℕ) → length code.lines ≤ place → end_at code place ≡ no_end place
 no_end_behind code place past = ap (λ ls. end_from ls place) (none_from code.lines place past)
 
+pub none_executed : (code : Flat) (place : ℕ) (s : Scene) → length code.lines ≤ place → ticks_at code place s ≡ 0
+none_executed code place s past = ap (λ ls. ticks_of false s (instructions_from ls) 0 no_operands) (none_from code.lines place past)
+
 pub own_there : (ts : List (TaskAt Spot)) (n : ℕ) (t : TaskAt Spot) → slice_get ts n ≡ Some t → slice_index_or (owns ts) n nobody ≡ t.own
 own_there [] n t is = cc
 own_there (u ∷ ts) zero t is = ap (λ (v : TaskAt Spot). v.own) (same u t is)
@@ -92,3 +101,39 @@ own_there (u ∷ ts) (suc n) t is = own_there ts n t is
 -- it has what is pending
 pub acts_so : (plan : Plan) (code : Flat) (limits : Limits) (alternative : Option ℕ) (n : ℕ) (p : Option Pending) (old new : All Spot) → p ≡ (own_of n old).pending → ActsPending plan code limits alternative n p old new → ActsSo plan code limits alternative n old new
 acts_so plan code limits alternative n p old new is h = λ t there. subst (λ (q : Option Pending). DoesAsked plan code limits alternative n (asked_at code q (scene n old) t.control) old new) (is ∙ ap (λ (o : Own). o.pending) (own_there old.tasks n t there)) (h t there)
+
+-- What the step executes.
+
+pub executes_so : (code : Flat) (n : ℕ) (c : All Spot) (p : Option Pending) (t : TaskAt Spot) → slice_get c.tasks n ≡ Some t → p ≡ (own_of n c).pending → executed_in code n c ≡ executed_at code p (scene n c) t.control
+executes_so code n c p t there is =
+    ap (λ (o : Option (TaskAt Spot)). executed_by code o (scene n c)) there
+    ∙ ap (λ (q : Option Pending). executed_at code q (scene n c) t.control) (sym (is ∙ ap (λ (o : Own). o.pending) (own_there c.tasks n t there)))
+
+none_at_turn : (u : run.Turn) → at_turn u 0 ≡ 0
+none_at_turn run.resting = refl
+none_at_turn run.closing = refl
+none_at_turn run.completing = refl
+none_at_turn (run.withdrawing object) = refl
+none_at_turn (run.serving s) = refl
+none_at_turn (run.restarting r) = refl
+none_at_turn (run.expiring delays) = refl
+none_at_turn (run.cancelling id) = refl
+none_at_turn (run.acting next) = refl
+
+-- where there is no task
+pub no_ticks : (plan : Plan) (code : Flat) (c : All Spot) (m : Move) → length c.tasks ≤ m.task → step_ticks plan code c m ≡ 0
+no_ticks plan code c m past =
+    ap (λ (o : Option (TaskAt Spot)). at_turn (turn_in plan code m.task c) (executed_by code o (scene m.task c))) (no_task c.tasks m.task past)
+    ∙ none_at_turn (turn_in plan code m.task c)
+
+-- whatever its turn is read in
+pub at_turned : (plan : Plan) (code : Flat) (n : ℕ) (c d : All Spot) (u : Turn) (ticks : ℕ) → at_turn (turned plan code n c u) ticks ≡ at_turn (turned plan code n d u) ticks
+at_turned plan code n c d Resting ticks = refl
+at_turned plan code n c d Closing ticks = refl
+at_turned plan code n c d Completing ticks = refl
+at_turned plan code n c d (Withdrawing object) ticks = refl
+at_turned plan code n c d (Serving s) ticks = refl
+at_turned plan code n c d (Restarting r) ticks = refl
+at_turned plan code n c d Expiring ticks = refl
+at_turned plan code n c d Cancelling ticks = refl
+at_turned plan code n c d Acting ticks = refl

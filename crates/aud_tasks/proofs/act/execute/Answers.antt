@@ -6,8 +6,8 @@ use Rattle.aud_expr.specs.Flow.{evaluated_at}
 use Rattle.aud_state.specs.Fast.{scene}
 use Rattle.aud_tasks.specs.Acting.{DoesEnd}
 use Rattle.aud_tasks.proofs.Results.{if_ok, if_on_ok}
-use Rattle.aud_tasks.proofs.StepLaws.Stepping.{no_end_behind, spot_at, starts}
-use Rattle.aud_tasks.proofs.Ticking.{no_more}
+use Rattle.aud_tasks.proofs.StepLaws.Stepping.{no_end_behind, none_executed, spot_at, starts}
+use Rattle.aud_tasks.proofs.Ticking.{barriers_alone, no_more}
 use Rattle.aud_tasks.proofs.act.execute.Goals as goal
 
 pub evaluate-requires-clause-begins : goal.evaluate-requires-clause-begins
@@ -26,3 +26,14 @@ returns-clause-does c = λ t there.
 
 pub returns-then-place-len-clause-few : goal.returns-then-place-len-clause-few
 returns-then-place-len-clause-few c = if_ok c.leave.result _ _ c.leave.ensures.few (λ ticks h. no_more (plain_program c.args.compiled.program.now).plan c.args.compiled.code.now ticks h)
+
+pub returns-then-place-len-clause-counts : goal.returns-then-place-len-clause-counts
+returns-then-place-len-clause-counts c = if_ok c.leave.result _ _ c.leave.ensures.few (λ ticks few t there.
+    let e = c.place-place.ensures t there in
+    barriers_alone _ _ ticks (none_executed c.args.compiled.code.now t.control.place (scene c.args.n c.args.state.now) (omega (arith, e))) few)
+
+pub returns-clause-counts : goal.returns-clause-counts
+returns-clause-counts c = λ t there.
+    let exact = c.in_ok-evaluated.ensures.ticks t there in
+    let few = c.in_ok-ticks.ensures.few in
+    record { least = omega (arith, exact, c.saturating_add.ensures); most = omega (arith, exact, few, c.saturating_add.ensures) }

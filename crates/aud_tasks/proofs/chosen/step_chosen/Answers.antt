@@ -25,5 +25,5 @@ returns-clause-runs c =
     let plan = (plain_program c.args.compiled.program.now).plan in
     let code = c.args.compiled.code.now in
     let new = c.step.new.state in
-    next_more plan code c.args.compiled.limits 1 c.args.state.now c.pick.new.state new new c.in-Some.picked c.in_ok-ticks.ticks (record { steps = 0; ticks = 0 }) c.in_ok-ticks.ticks c.in-Some.ensures.picks c.in_ok-ticks.ensures.next c.in_ok-ticks.ensures.few
-    (runs_none plan code c.args.compiled.limits 0 new) (omega arith) (omega arith)
+    next_more plan code c.args.compiled.limits 1 c.args.state.now c.pick.new.state new new c.in-Some.picked c.in_ok-ticks.ticks (record { steps = 0; ticks = 0 }) c.in_ok-ticks.ticks c.in-Some.ensures.picks c.in_ok-ticks.ensures.next c.in_ok-ticks.ensures.few c.in_ok-ticks.ensures.counts
+    (runs_none plan code c.args.compiled.limits 0 new) (omega arith) (record { least = omega arith; most = omega arith })

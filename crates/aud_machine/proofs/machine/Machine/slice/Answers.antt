@@ -17,6 +17,9 @@ returns-clause-ticks c =
     let ran = c.in_ok-ran.ran in
     rw (← c.self.view_is) (each_at_most_twice plan inside.code ran.steps ran.ticks c.self.invariant.1 c.in_ok-ran.ensures.runs.few)
 
+pub returns-clause-counts : goal.returns-clause-counts
+returns-clause-counts c = rw (← c.self.view_is) c.in_ok-ran.ensures.runs.counts
+
 pub invariant_of-self-2 : goal.invariant_of-self-2
 invariant_of-self-2 c =
     let inside = c.self.inside in

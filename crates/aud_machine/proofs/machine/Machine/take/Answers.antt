@@ -6,7 +6,7 @@ use Rattle.aud_meaning.specs.Run.{moves_at}
 use Rattle.aud_code.specs.Places.{Spot}
 use Rattle.aud_code.specs.Flat.{flat_controls}
 use Rattle.aud_machine.specs.Shows.{MissesNone}
-use Rattle.aud_machine.proofs.Bridges.{Forgets, forgot, nothing_forgot, taken_shown, few_taken, spots_stay, within_taken}
+use Rattle.aud_machine.proofs.Bridges.{Forgets, forgot, nothing_forgot, taken_shown, counted_taken, few_taken, spots_stay, within_taken}
 use Rattle.aud_machine.proofs.Missed.{taken_misses}
 use Rattle.aud_machine.proofs.machine.Machine.take.Goals as goal
 use Rattle.aud_machine.proofs.machine.Machine.take.Goals.{then-is_some+in_ok-forget_if_due, else-is_some}
@@ -33,6 +33,12 @@ returns-clause-ticks c =
     let inside = c.self.inside in
     let plan = (plain_program inside.program).plan in
     rw (← c.self.view_is) (few_taken plan inside.code inside.limits (slice_get (moves_at plan (flat_controls plan inside.code) inside.state) c.args.nth) inside.state c.take.new.state c.in_ok-taken.taken c.self.invariant.1 c.in_ok-taken.ensures.takes)
+
+pub returns-clause-counts : goal.returns-clause-counts
+returns-clause-counts c =
+    let inside = c.self.inside in
+    let plan = (plain_program inside.program).plan in
+    rw (← c.self.view_is) (counted_taken plan inside.code inside.limits (slice_get (moves_at plan (flat_controls plan inside.code) inside.state) c.args.nth) inside.state c.take.new.state c.in_ok-taken.taken c.in_ok-taken.ensures.takes)
 
 pub invariant_of-self-2 : goal.invariant_of-self-2
 invariant_of-self-2 c =
