@@ -407,11 +407,7 @@ impl Calls {
     }
 
     /// Those that are queued on a task's entries, by their numbers.
-    pub fn queued_on_task(
-        &self,
-        alloc: Global,
-        task: usize,
-    ) -> Result<Vec<usize>, AllocError>
+    pub fn queued_on_task(&self, alloc: Global, task: usize) -> Result<Vec<usize>, AllocError>
         ensures { IfOk result (λ ids. ids.items ≡ calls_on_task task self.now.calls) }
     {
         let mut ids = self.all_queued(alloc)?;
@@ -420,11 +416,7 @@ impl Calls {
     }
 
     /// Those that are queued on an object's entries, by their numbers.
-    pub fn queued_on_object(
-        &self,
-        alloc: Global,
-        object: usize,
-    ) -> Result<Vec<usize>, AllocError>
+    pub fn queued_on_object(&self, alloc: Global, object: usize) -> Result<Vec<usize>, AllocError>
         ensures { IfOk result (λ ids. ids.items ≡ calls_on_object object self.now.calls) }
     {
         let mut ids = self.all_queued(alloc)?;

@@ -6,8 +6,8 @@ ghost use Rattle.aud_state.specs.View.{plain_task};
 
 use crate::state::State;
 use crate::task::Task;
-use aud_calls::calls::cancelling::cancel_time;
 use aud_calls::calls::Calls;
+use aud_calls::calls::cancelling::cancel_time;
 use aud_meaning::state::Status;
 
 impl State {
