@@ -1,5 +1,5 @@
 -- One task is changed, and what is read of one.
-use Rattle.std.proofs.Common.{◌≡◌, ◌<◌, ◌≤◌, ℕ, zero, suc, ℤ, List, [], ◌∷◌, ◌++◌, length, map, get_or, set, ap, sym, ◌∙◌, arith, slice_index_or}
+use Rattle.std.proofs.Common.{◌≡◌, ◌<◌, ◌≤◌, ℕ, zero, suc, ℤ, List, [], ◌∷◌, ◌++◌, length, map, get_or, set, refl, ap, sym, ◌∙◌, arith, slice_index_or}
 use Rattle.std.proofs.lemmas.List.{map-append}
 use Rattle.aud_meaning.specs.Configuration.{TaskAt, All}
 use Rattle.aud_meaning.specs.Parts.{on_object, on_shared, on_task, nobody, own_of, owns}
