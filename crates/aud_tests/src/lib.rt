@@ -1,4 +1,4 @@
-// The tests of all crates.
+// The tests of what runs programs.
 #![tactic(auto)]
 
 #[cfg(test)]

@@ -1,25 +1,16 @@
-// What no contract says, and no session of `aud_session_tests` shows: each call that no session goes through, once
-// where it succeeds; what is done at once, and taken ahead, of programs worked out by hand; keys of frames that are
-// given back; streams that fail; desks with workers, their connections and the listening program; the program's status,
-// and what it says of it. The tests stand here for all crates, since a crate that has tests of its own is proved twice.
+// What no contract of what runs programs says, and no session of `aud_session_tests` shows: each call that no session
+// goes through, once where it succeeds; what is done at once, and taken ahead, of programs worked out by hand; keys of
+// frames that are given back. The tests stand here for all crates, since a crate that has tests of its own is proved
+// twice.
 
 mod ahead;
 mod benches;
 mod choosing;
-mod connections;
-mod counted;
-mod desks;
 mod frames;
 mod fusing;
-mod greetings;
-mod listening;
 mod machines;
 mod queues;
-mod reading;
-mod serving;
 mod sound;
-mod statuses;
-mod surroundings;
 mod tokens;
 
 use aud_bench::loading::load;

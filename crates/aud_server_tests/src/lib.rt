@@ -1,0 +1,5 @@
+// The tests of what serves users.
+#![tactic(auto)]
+
+#[cfg(test)]
+mod tests;
