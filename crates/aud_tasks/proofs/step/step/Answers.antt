@@ -1,4 +1,4 @@
-use Rattle.std.proofs.Common.{◌<◌, length, ap, sym, ◌∙◌, subst, arith}
+use Rattle.std.proofs.Common.{◌<◌, suc, length, ap, sym, ◌∙◌, subst, arith}
 use Rattle.aud_typed.specs.Ties.View.{plain_program}
 use Rattle.aud_meaning.specs.Configuration.{All}
 use Rattle.aud_meaning.specs.Run as run
@@ -43,6 +43,7 @@ returns-clause-counts c = if_ok c.take_turn.result _ _ c.take_turn.ensures.count
     let n = c.args.taken.task in
     let next = c.turn_of-next.result in
     let own = executed_in code n c.args.state.now in
+    let counted : All Spot = record c.args.state.now { steps = suc c.args.state.now.steps } in
     subst (λ k. Counts k (most_of_barriers plan code) ticks)
-    (at_turned plan code n _ c.args.state.now next own ∙ ap (λ (u : run.Turn). at_turn u own) (sym (c.turn_of-next.ensures plan)))
+    (at_turned plan code n counted c.args.state.now next own ∙ ap (λ (u : run.Turn). at_turn u own) (sym (c.turn_of-next.ensures plan)))
     (subst (λ (s : All Spot). Counts (at_turn (turned plan code n s next) (executed_in code n s)) (most_of_barriers plan code) ticks) c.count_step.ensures h))
