@@ -157,14 +157,14 @@ within_row : faults (main (p_with [] (p_of (one_formal (codes "N") (at 2 14) Uns
 within_row = refl
 
 -- a program with the name of a type or an exception
-type_row : faults (unit [] (at 1 1) (id (codes "INTEGER") (at 1 11)) (declarations []) (main_body (null (at 6 1)) no_handlers)) ≡ fault (at 1 11) DeclaredTwice ∷ []
-type_row = refl
+program_type_row : faults (unit [] (at 1 1) (id (codes "INTEGER") (at 1 11)) (declarations []) (main_body (null (at 6 1)) no_handlers)) ≡ fault (at 1 11) DeclaredTwice ∷ []
+program_type_row = refl
 
-exception_row : faults (unit [] (at 1 1) (id (codes "TASKING_ERROR") (at 1 11)) (declarations []) (main_body (null (at 6 1)) no_handlers)) ≡ fault (at 1 11) DeclaredTwice ∷ []
-exception_row = refl
+program_exception_row : faults (unit [] (at 1 1) (id (codes "TASKING_ERROR") (at 1 11)) (declarations []) (main_body (null (at 6 1)) no_handlers)) ≡ fault (at 1 11) DeclaredTwice ∷ []
+program_exception_row = refl
 
-put_row : faults (unit [] (at 1 1) (id (codes "PUT") (at 1 11)) (declarations []) (main_body (null (at 6 1)) no_handlers)) ≡ []
-put_row = refl
+program_put_row : faults (unit [] (at 1 1) (id (codes "PUT") (at 1 11)) (declarations []) (main_body (null (at 6 1)) no_handlers)) ≡ []
+program_put_row = refl
 
 -- procedure P (P : Integer; N : P): the formal hides the procedure, and is no subtype
 formal_hides_row : faults (main (p_of (one_formal (codes "P") (at 2 14) Unstated (codes "INTEGER") (at 2 18) ∷ one_formal (codes "N") (at 2 27) Unstated (codes "P") (at 2 31) ∷ []) ∷ []) (null (at 6 1))) ≡ fault (at 2 31) WrongKindOfName ∷ []
