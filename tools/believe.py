@@ -13,7 +13,7 @@ import sys
 TOP = os.path.join(os.path.dirname(os.path.abspath(__file__)), "..", "crates")
 ROOTS = ("aud_solo.specs.Serving", "aud_solo.specs.Solo", "aud_lines.specs.Requests", "aud_lines.specs.Text", "aud_server.specs.Program", "aud_bench.specs.Alone", "aud_worlds.specs.Headline", "aud_worlds.specs.Taken")
 # crates whose words only tie contracts together, or say what a desk and a connection promise
-TYING = ("aud_scoped", "aud_code", "aud_over", "aud_calls", "aud_state", "aud_layout", "aud_gen", "aud_exc", "aud_expr", "aud_masters", "aud_rendezvous", "aud_select", "aud_protected", "aud_abort", "aud_sequential", "aud_tasks", "aud_machine", "aud_examples", "aud_pass", "aud_desk", "aud_connection")
+TYING = ("aud_scoped", "aud_code", "aud_over", "aud_framed", "aud_calls", "aud_state", "aud_layout", "aud_gen", "aud_exc", "aud_expr", "aud_masters", "aud_rendezvous", "aud_select", "aud_protected", "aud_abort", "aud_sequential", "aud_tasks", "aud_machine", "aud_examples", "aud_pass", "aud_desk", "aud_connection")
 TYING_MODULES = ("aud_hall.specs.Told",)
 USE = re.compile(r"^(?:pub )?use Rattle\.(aud_\w+)\.specs\.([\w.]+?)(?:\.\{.*\}| as \w+)$", re.MULTILINE)
 

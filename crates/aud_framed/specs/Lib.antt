@@ -1,0 +1,5 @@
+pub mod Held
+pub mod Waiting
+pub mod Calls
+pub mod Framed
+pub mod Ways
