@@ -6,3 +6,4 @@ pub mod Offers
 pub mod Fitting
 pub mod Kept
 pub mod Opening
+pub mod Stepping

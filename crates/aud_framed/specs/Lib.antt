@@ -3,3 +3,4 @@ pub mod Waiting
 pub mod Calls
 pub mod Framed
 pub mod Ways
+pub mod Stepping
