@@ -19,22 +19,39 @@ use Rattle.aud_code.specs.Flat.{Flat}
 use Rattle.aud_over.specs.Over.{is_call_over, is_served, call_if, calls_left, forgotten}
 use Rattle.aud_over.proofs.Calls.{true_is_not_false}
 use Rattle.aud_framed.specs.Waiting.{AllFramed}
-use Rattle.aud_framed.specs.Calls.{CallerWaits, IsEntryOf, EntryFits, IsServed, ServesBy, ServesIn, RequeueFits, RestartFits, Serves, IsAgain, CallsOn, HasNoCall}
+use Rattle.aud_framed.specs.Calls.{CallerWaits, IsEntryOf, EntryFits, IsServed, ServesBy, ServesIn, RequeueFits, RestartFits, Serves, IsAgain, CallsOn, HasNoCall, IsPast, changes}
 use Rattle.aud_framed.specs.Framed.{AllObjectsFit, IsFramed}
 
 -- Where the calls that are selected and the objects are the same, tasks serve as they did.
-module _ (plan : Plan) (c d : All Spot) (calls : (id : ℕ) → (call_of id c).state ≡ Selected → call_of id d ≡ call_of id c) (lives : (id : ℕ) → is_call_over (call_of id d).state ≡ false → call_of id c ≡ call_of id d) (objects : c.shared.objects ≡ d.shared.objects) where
+module _ (plan : Plan) (c d : All Spot) (calls : (id : ℕ) → (call_of id c).state ≡ Selected → call_of id d ≡ call_of id c) (lives : (id : ℕ) → is_call_over (call_of id d).state ≡ false → call_of id c ≡ call_of id d) (objects : c.shared.objects ≡ d.shared.objects) (counts : length c.shared.calls ≡ length d.shared.calls) where
   served : (id : ℕ) (o : Owner) → IsServed plan c id o → IsServed plan d id o
   served id o h = let e = calls id h.0 in (ap (λ (x : Call). x.state) e ∙ h.0, ap (λ (x : Call). x.owner) e ∙ h.1)
+
+  calls_on : (n object : ℕ) → CallsOn plan c n object → CallsOn plan d n object
+  calls_on n object h id live is =
+      let e = lives id live in
+      sym (ap (λ (x : Call). x.owner) e) ∙ h id (ap (λ (x : Call). is_call_over x.state) e ∙ live) (ap (λ (x : Call). x.caller) e ∙ is)
+
+  no_call_has : (n : ℕ) → HasNoCall plan c n → HasNoCall plan d n
+  no_call_has n h id live is = let e = lives id live in h id (ap (λ (x : Call). is_call_over x.state) e ∙ live) (ap (λ (x : Call). x.caller) e ∙ is)
+
+  past : (id : ℕ) → IsPast plan c id → IsPast plan d id
+  past id h = (subst (λ k. id < k) counts h.0, by (is_call_over (call_of id d).state) refl)
+    where
+      by : (b : Bool) → is_call_over (call_of id d).state ≡ b → b ≡ true
+      by true e = refl
+      by false e = true_is_not_false (sym h.1 ∙ (ap (λ (x : Call). is_call_over x.state) (lives id e) ∙ e))
+
+  changing : (n object : ℕ) → changes plan c n object ≡ true → changes plan d n object ≡ true
+  changing n object h = subst (λ (xs : List Object). any (λ (a : Action). nat_eq a.task n && not a.reading) (slice_index_or xs object no_object).actions ≡ true) objects h
 
   serves_by : (n : ℕ) (p : Purpose) (os : List Opened) → ServesBy plan c n p os → ServesBy plan d n p os
   serves_by n for_body os h = h
   serves_by n for_block os h = h
   serves_by n for_loop os h = h
   serves_by n (for_procedure r) os h = h
-  serves_by n (for_operation object r) os h = subst (λ (xs : List Object). acts_on n (slice_index_or xs object no_object) ≡ true) objects h
-  serves_by n (for_entry object id was back) os h =
-      (served id (owner.Object object) h.0, subst (λ (xs : List Object). any (λ (a : Action). nat_eq a.task n && not a.reading) (slice_index_or xs object no_object).actions ≡ true) objects h.1)
+  serves_by n (for_operation object r) os h = (subst (λ (xs : List Object). acts_on n (slice_index_or xs object no_object) ≡ true) objects h.0, λ e. changing n object (h.1 e))
+  serves_by n (for_entry object id was back) os h = (served id (owner.Object object) h.0, (changing n object h.1.0, λ e. calls_on n object (h.1.1 e)))
   serves_by n (for_accept id) os h = (served id (owner.Task n) h.0, h.1)
 
   serves_in : (n : ℕ) (os : List Opened) → ServesIn plan c n os → ServesIn plan d n os
@@ -43,12 +60,12 @@ module _ (plan : Plan) (c d : All Spot) (calls : (id : ℕ) → (call_of id c).s
 
   entry_of : (o : Owner) (entry : ℕ) → IsEntryOf plan c o entry → IsEntryOf plan d o entry
   entry_of (owner.Task m) entry h = h
-  entry_of (owner.Object object) entry h = h
+  entry_of (owner.Object object) entry h = (h.0, subst (λ (xs : List Object). object < length xs) objects h.1)
 
   entry_fits : (o : Owner) (entry : ℕ) → EntryFits plan c o entry → EntryFits plan d o entry
   entry_fits (owner.Task m) entry h = h
   entry_fits (owner.Object object) entry h =
-      (h.0, subst (λ (xs : List Object). (object < length xs) × ((unit_of plan (entry_plan plan entry).unit).level ≡ length (slice_index_or xs object no_object).display)) objects h.1)
+      (entry_of (owner.Object object) entry h.0, subst (λ (xs : List Object). (unit_of plan (entry_plan plan entry).unit).level ≡ length (slice_index_or xs object no_object).display) objects h.1)
 
   requeue_fits : (r : Again) (os : List Opened) → RequeueFits plan c r os → RequeueFits plan d r os
   requeue_fits r [] h = absurd h
@@ -69,25 +86,18 @@ module _ (plan : Plan) (c d : All Spot) (calls : (id : ℕ) → (call_of id c).s
     form = subst (λ (x : Call). IsAgain x.form) (sym (calls r.call h.served.0)) h.form;
     entry = subst (λ (x : Call). EntryFits plan d (owner.Object r.object) x.entry) (sym (calls r.call h.served.0)) (entry_fits (owner.Object r.object) (call_of r.call c).entry h.entry);
     outside = h.outside;
+    apart = h.apart;
   }
-
-  calls_on : (n object : ℕ) → CallsOn plan c n object → CallsOn plan d n object
-  calls_on n object h id live is =
-      let e = lives id live in
-      sym (ap (λ (x : Call). x.owner) e) ∙ h id (ap (λ (x : Call). is_call_over x.state) e ∙ live) (ap (λ (x : Call). x.caller) e ∙ is)
-
-  no_call_has : (n : ℕ) → HasNoCall plan c n → HasNoCall plan d n
-  no_call_has n h id live is = let e = lives id live in h id (ap (λ (x : Call). is_call_over x.state) e ∙ live) (ap (λ (x : Call). x.caller) e ∙ is)
 
   pub serves_kept : (n : ℕ) (own : Own) → Serves plan c n own → Serves plan d n own
   serves_kept n own h = record {
     opened = serves_in n own.opened h.opened;
     calls = h.calls;
     objects = h.objects;
-    serving = λ s e. let k = h.serving s e in (subst (λ (xs : List Object). any (λ (a : Action). nat_eq a.task n && not a.reading) (slice_index_or xs s.object no_object).actions ≡ true) objects k.0, still n s.object own k.1);
-    again = λ r e. requeue_fits r own.opened (h.again r e);
+    serving = λ s e. let k = h.serving s e in (changing n s.object k.0, still n s.object own k.1);
+    again = λ r e. let k = h.again r e in (requeue_fits r own.opened k.0, k.1);
     restart = λ r e. restart_fits n own r (h.restart r e);
-    withdraw = λ object e. let k = h.withdraw object e in (k.0, no_call_has n k.1);
+    withdraw = λ object e. let k = h.withdraw object e in (k.0, (no_call_has n k.1.0, (past own.call k.1.1.0, subst (λ (xs : List Object). object < length xs) objects k.1.1.1)));
   }
     where
       still : (n object : ℕ) (own : Own) → (own.status ≡ Running) ⊎ ((own.status ≡ Calling) × CallsOn plan c n object) → (own.status ≡ Running) ⊎ ((own.status ≡ Calling) × CallsOn plan d n object)
@@ -96,8 +106,8 @@ module _ (plan : Plan) (c d : All Spot) (calls : (id : ℕ) → (call_of id c).s
 
 pub supplied_framed : (plan : Plan) (code : Flat) (seen : List ℕ) (choices : List ℕ) (milliseconds : ℕ) (c : All Spot) → IsFramed plan code seen c → IsFramed plan code seen (supplied choices c) × IsFramed plan code seen (advanced milliseconds c)
 supplied_framed plan code seen choices milliseconds c f = (
-  record { tasks = f.tasks; objects = f.objects; calls = f.calls; stays = f.stays; queued = λ id e. entry_of plan c (supplied choices c) (λ id e. refl) (λ id e. refl) refl (call_of id c).owner (call_of id c).entry (f.queued id e); serves = λ n h. serves_kept plan c (supplied choices c) (λ id e. refl) (λ id e. refl) refl n (own_of n c) (f.serves n h); alone = f.alone },
-  record { tasks = f.tasks; objects = f.objects; calls = f.calls; stays = f.stays; queued = λ id e. entry_of plan c (advanced milliseconds c) (λ id e. refl) (λ id e. refl) refl (call_of id c).owner (call_of id c).entry (f.queued id e); serves = λ n h. serves_kept plan c (advanced milliseconds c) (λ id e. refl) (λ id e. refl) refl n (own_of n c) (f.serves n h); alone = f.alone },
+  record { tasks = f.tasks; objects = f.objects; calls = f.calls; stays = f.stays; queued = λ id e. entry_of plan c (supplied choices c) (λ id e. refl) (λ id e. refl) refl refl (call_of id c).owner (call_of id c).entry (f.queued id e); serves = λ n h. serves_kept plan c (supplied choices c) (λ id e. refl) (λ id e. refl) refl refl n (own_of n c) (f.serves n h); alone = f.alone },
+  record { tasks = f.tasks; objects = f.objects; calls = f.calls; stays = f.stays; queued = λ id e. entry_of plan c (advanced milliseconds c) (λ id e. refl) (λ id e. refl) refl refl (call_of id c).owner (call_of id c).entry (f.queued id e); serves = λ n h. serves_kept plan c (advanced milliseconds c) (λ id e. refl) (λ id e. refl) refl refl n (own_of n c) (f.serves n h); alone = f.alone },
 )
 
 -- a call that is left, by its number
@@ -105,6 +115,10 @@ left_at : (served : ℕ → Bool) (n : ℕ) (cs : List Call) (i : ℕ) → (b : 
 left_at served n [] i = (true, refl, λ h. refl)
 left_at served n (c ∷ cs) zero = (not (is_call_over c.state) || served n, refl, λ h. ap (λ o. not o || served n) h)
 left_at served n (c ∷ cs) (suc i) = left_at served (suc n) cs i
+
+left_count : (served : ℕ → Bool) (n : ℕ) (cs : List Call) → length (calls_left served n cs) ≡ length cs
+left_count served n [] = refl
+left_count served n (c ∷ cs) = ap suc (left_count served (suc n) cs)
 
 not_over : (s : CallState) → is_queued s ≡ true → is_call_over s ≡ false
 not_over Queued h = refl
@@ -132,13 +146,13 @@ framed_kept plan code seen c d same f = record {
       subst (λ (ts : List (TaskAt Spot)). CallerWaits id (call_of id d) (slice_index_or (owns ts) (call_of id d).caller nobody)) tasks
       (subst (λ (x : Call). CallerWaits id x (own_of x.caller c)) e (f.calls id (ap (λ (x : Call). is_call_over x.state) e ∙ live)));
   queued = λ id is. let e = call_kept c d same id (ap is_call_over is) in
-      entry_of plan c d selected (call_kept c d same) objects (call_of id d).owner (call_of id d).entry
+      entry_of plan c d selected (call_kept c d same) objects counts (call_of id d).owner (call_of id d).entry
       (subst (λ (x : Call). IsEntryOf plan c x.owner x.entry) e (f.queued id (ap (λ (x : Call). x.state) e ∙ is)));
   stays = λ id is. let e = call_kept c d same id (ap is_call_over is) in
       subst (λ (ts : List (TaskAt Spot)). (slice_index_or (owns ts) (call_of id d).caller nobody).abnormal ≡ true → (call_of id d).stays ≡ true) tasks
       (subst (λ (x : Call). (own_of x.caller c).abnormal ≡ true → x.stays ≡ true) e (f.stays id (ap (λ (x : Call). x.state) e ∙ is)));
   serves = λ n. subst (λ (ts : List (TaskAt Spot)). is_over (slice_index_or (owns ts) n nobody).status ≡ false → Serves plan d n (slice_index_or (owns ts) n nobody)) tasks
-      (λ h. serves_kept plan c d selected (call_kept c d same) objects n (own_of n c) (f.serves n h));
+      (λ h. serves_kept plan c d selected (call_kept c d same) objects counts n (own_of n c) (f.serves n h));
   alone = λ object n m. subst (λ (xs : List Object). acts_on n (slice_index_or xs object no_object) ≡ true → acts_on m (slice_index_or xs object no_object) ≡ true → (n ≡ m) ⊎ (any (λ (a : Action). not a.reading) (slice_index_or xs object no_object).actions ≡ false)) objects (f.alone object n m);
 }
   where
@@ -147,6 +161,9 @@ framed_kept plan code seen c d same f = record {
 
     objects : c.shared.objects ≡ d.shared.objects
     objects = ap (λ (x : All Spot). x.shared.objects) same
+
+    counts : length c.shared.calls ≡ length d.shared.calls
+    counts = sym (left_count (is_served (owns c.tasks)) 0 c.shared.calls) ∙ (ap (λ (x : All Spot). length x.shared.calls) same ∙ left_count (is_served (owns d.tasks)) 0 d.shared.calls)
 
     selected : (id : ℕ) → (call_of id c).state ≡ Selected → call_of id d ≡ call_of id c
     selected id is = call_kept d c (sym same) id (ap is_call_over is)

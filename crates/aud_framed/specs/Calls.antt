@@ -14,6 +14,7 @@ use Rattle.aud_meaning.specs.declared.state.Status.TheVariants.{Running, Activat
 use Rattle.aud_meaning.specs.Configuration.{Purpose, for_body, for_block, for_loop, for_procedure, for_operation, for_entry, for_accept, Opened, Own, Call, All}
 use Rattle.aud_meaning.specs.Parts.{acts_on, any, call_of, contains, entry_plan, object_of, unit_of}
 use Rattle.aud_over.specs.Over.{is_call_over}
+pub use Rattle.aud_framed.specs.Held.{objects_in}
 use Rattle.aud_framed.specs.Waiting.{is_of_object}
 
 -- Callers.
@@ -42,20 +43,7 @@ CallerWaits id call own = (own.call ≡ id) × Waits call.owner own
 
 -- Servers.
 
--- the objects in whose bodies a task is, and the calls that it serves, innermost first
-abbrev pub objects_in : List Opened → List ℕ
-objects_in [] = []
-objects_in (x ∷ xs) = by x.purpose (objects_in xs)
-  where
-    by : Purpose → List ℕ → List ℕ
-    by for_body rest = rest
-    by for_block rest = rest
-    by for_loop rest = rest
-    by (for_procedure r) rest = rest
-    by (for_operation n r) rest = n ∷ rest
-    by (for_entry n id served back) rest = n ∷ rest
-    by (for_accept id) rest = rest
-
+-- the calls that a task serves, innermost first
 abbrev pub calls_in : List Opened → List ℕ
 calls_in [] = []
 calls_in (x ∷ xs) = by x.purpose (calls_in xs)
@@ -93,28 +81,39 @@ module _ {C : Type 0} (plan : Plan) (c : All C) where
   abbrev pub changes : ℕ → ℕ → Bool
   changes n object = any (λ (a : Action). nat_eq a.task n && not a.reading) (object_of object c).actions
 
-  -- the entry is one of its owner
+  -- the entry is one of its owner, which is there
   abbrev pub IsEntryOf : Owner → ℕ → Type 0
   IsEntryOf (owner.Task m) entry = is_of_object plan entry ≡ false
-  IsEntryOf (owner.Object object) entry = is_of_object plan entry ≡ true
+  IsEntryOf (owner.Object object) entry = (is_of_object plan entry ≡ true) × (object < length c.shared.objects)
 
   -- and its body sees the frames that are around the object
   abbrev pub EntryFits : Owner → ℕ → Type 0
   EntryFits (owner.Task m) entry = IsEntryOf (owner.Task m) entry
   EntryFits (owner.Object object) entry =
-      IsEntryOf (owner.Object object) entry × ((object < length c.shared.objects) × ((unit_of plan (entry_plan plan entry).unit).level ≡ length (object_of object c).display))
+      IsEntryOf (owner.Object object) entry × ((unit_of plan (entry_plan plan entry).unit).level ≡ length (object_of object c).display)
 
   abbrev pub IsServed : ℕ → Owner → Type 0
   IsServed id o = ((call_of id c).state ≡ Selected) × ((call_of id c).owner ≡ o)
 
-  -- a call that is served is of the task, or of the object on which it acts; an accept stands in no object's body
+  -- each call of the task that is not over is on the object; it has none; that of this number is over
+  abbrev pub CallsOn : ℕ → ℕ → Type 0
+  CallsOn n object = (id : ℕ) → is_call_over (call_of id c).state ≡ false → (call_of id c).caller ≡ n → (call_of id c).owner ≡ owner.Object object
+
+  abbrev pub HasNoCall : ℕ → Type 0
+  HasNoCall n = (id : ℕ) → is_call_over (call_of id c).state ≡ false → ¬ ((call_of id c).caller ≡ n)
+
+  abbrev pub IsPast : ℕ → Type 0
+  IsPast id = (id < length c.shared.calls) × (is_call_over (call_of id c).state ≡ true)
+
+  -- a call that is served is of the task, or of the object on which it acts, as is its own call that waits meanwhile; an accept stands in
+  -- no object's body
   abbrev pub ServesBy : ℕ → Purpose → List Opened → Type 0
   ServesBy n for_body os = Unit {0}
   ServesBy n for_block os = Unit {0}
   ServesBy n for_loop os = Unit {0}
   ServesBy n (for_procedure r) os = Unit {0}
-  ServesBy n (for_operation object r) os = acts_on n (object_of object c) ≡ true
-  ServesBy n (for_entry object id served back) os = IsServed id (owner.Object object) × (changes n object ≡ true)
+  ServesBy n (for_operation object r) os = (acts_on n (object_of object c) ≡ true) × (r.is_function ≡ false → changes n object ≡ true)
+  ServesBy n (for_entry object id served back) os = IsServed id (owner.Object object) × ((changes n object ≡ true) × (back.status ≡ Calling → CallsOn n object))
   ServesBy n (for_accept id) os = IsServed id (owner.Task n) × (objects_in os ≡ [])
 
   abbrev pub ServesIn : ℕ → List Opened → Type 0
@@ -135,19 +134,17 @@ module _ {C : Type 0} (plan : Plan) (c : All C) where
       by (for_entry n id served back) rest = is_of_object plan r.entry ≡ true
       by (for_accept id) rest = EntryFits r.owner r.entry
 
+  -- it runs until it has left that, serves no object, and makes no call before
+  abbrev pub AgainFits : Again → Own → Type 0
+  AgainFits r own = RequeueFits r own.opened × ((own.status ≡ Running) × ((own.serving ≡ None) × (own.restart ≡ None)))
+
   -- the call that the acceptor makes again on an object as its next step: of the acceptor still, and no conditional one any more
   pub record RestartFits (n : ℕ) (own : Own) (r : Restart) : Type 0 where
     pub served : IsServed r.call (owner.Task n)
     pub form : IsAgain (call_of r.call c).form
     pub entry : EntryFits (owner.Object r.object) (call_of r.call c).entry
     pub outside : objects_in own.opened ≡ []
-
-  -- each call of the task that is not over is on the object; it has none
-  abbrev pub CallsOn : ℕ → ℕ → Type 0
-  CallsOn n object = (id : ℕ) → is_call_over (call_of id c).state ≡ false → (call_of id c).caller ≡ n → (call_of id c).owner ≡ owner.Object object
-
-  abbrev pub HasNoCall : ℕ → Type 0
-  HasNoCall n = (id : ℕ) → is_call_over (call_of id c).state ≡ false → ¬ ((call_of id c).caller ≡ n)
+    pub apart : (own.serving ≡ None) × ¬ (own.status ≡ Calling)
 
   -- of a task that is not over
   pub record Serves (n : ℕ) (own : Own) : Type 0 where
@@ -155,9 +152,9 @@ module _ {C : Type 0} (plan : Plan) (c : All C) where
     pub calls : AreApart (with_restarted own.restart (calls_in own.opened))
     pub objects : AreApart (with_served own.serving (objects_in own.opened))
     pub serving : (s : Serving) → own.serving ≡ Some s → (changes n s.object ≡ true) × ((own.status ≡ Running) ⊎ ((own.status ≡ Calling) × CallsOn n s.object))
-    pub again : (r : Again) → own.again ≡ Some r → RequeueFits r own.opened
+    pub again : (r : Again) → own.again ≡ Some r → AgainFits r own
     pub restart : (r : Restart) → own.restart ≡ Some r → RestartFits n own r
-    pub withdraw : (object : ℕ) → own.withdraw ≡ Some object → Waits (owner.Object object) own × HasNoCall n
+    pub withdraw : (object : ℕ) → own.withdraw ≡ Some object → ((o : Owner) × Waits o own) × (HasNoCall n × (IsPast own.call × (object < length c.shared.objects)))
 
   -- a queued call is on an entry of its owner
   abbrev pub QueueFits : Call → Type 0

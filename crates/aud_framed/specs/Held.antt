@@ -40,6 +40,20 @@ OpenedBy last (for_operation n r) = ⊥
 OpenedBy last (for_entry n id served back) = ⊥
 OpenedBy last (for_accept id) = ((entry : ℕ) × (region : Option ℕ) × (last ≡ Does (Accept entry region))) ⊎ ((has_else : Bool) × (last ≡ Does (Select has_else)))
 
+-- the objects in whose bodies a task is, innermost first
+abbrev pub objects_in : List Opened → List ℕ
+objects_in [] = []
+objects_in (x ∷ xs) = by x.purpose (objects_in xs)
+  where
+    by : Purpose → List ℕ → List ℕ
+    by for_body rest = rest
+    by for_block rest = rest
+    by for_loop rest = rest
+    by (for_procedure r) rest = rest
+    by (for_operation n r) rest = n ∷ rest
+    by (for_entry n id served back) rest = n ∷ rest
+    by (for_accept id) rest = rest
+
 -- the body of the task itself has no caller, and its frame is the outermost
 abbrev pub IsOutermost : List ℕ → List Opened → Type 0
 IsOutermost [] [] = Unit {0}

@@ -4,3 +4,7 @@ pub mod Calls
 pub mod Framed
 pub mod Ways
 pub mod Stepping
+pub mod StepsOfTasks
+pub mod StepsOfObjects
+pub mod Enabled
+pub mod Turns

@@ -110,7 +110,7 @@ abbrev pub LoneFramedLaw : Type 0
 LoneFramedLaw =
     (plan : Plan) (code : Flat) (table : List Counts) (tasks barriers seen : List ℕ) (limits : Limits) (alternative : Option ℕ) (n : ℕ) (c : All Spot) (t : TaskAt Spot) →
     IsSound code → IsSeen code table tasks barriers seen → HasLevels plan code tasks seen → HasWays code → AreSpots code.lines c.tasks →
-    slice_get c.tasks n ≡ Some t → t.own.status ≡ Running → t.own.pending ≡ None →
+    slice_get c.tasks n ≡ Some t → t.own.status ≡ Running → t.own.pending ≡ None → t.own.serving ≡ None → t.own.restart ≡ None →
     IsAlone (asked_at code None (scene_of plan (flat_controls plan code) n c) t.control) →
     MeetsBy plan code (Some t) n c →
     IsFramed plan code seen c →

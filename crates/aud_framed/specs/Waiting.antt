@@ -11,7 +11,7 @@ use Rattle.aud_code.specs.Instruction.{Activate, Delay}
 use Rattle.aud_code.specs.Flat.{Last, Does, EndLine, FlatLine, Flat, start_at}
 use Rattle.aud_code.specs.Frames.{found, Found, IsWritten, OpensAccept, BodyAt}
 use Rattle.aud_code.specs.Seen.{DoingSees}
-use Rattle.aud_framed.specs.Held.{AtCall, StandsAt}
+use Rattle.aud_framed.specs.Held.{AtCall, StandsAt, objects_in}
 
 -- the entry is an object's
 abbrev pub is_of_object : Plan → ℕ → Bool
@@ -37,6 +37,7 @@ module _ (plan : Plan) (code : Flat) (seen : List ℕ) where
     pub place : t.control ≡ record { place = start_at code t.own.unit; returns = [] }
     pub display : length t.own.display ≡ (unit_of plan t.own.unit).level
     pub opened : t.own.opened ≡ []
+    pub none : t.own.pending ≡ None
 
   abbrev pub Stands : TaskAt Spot → Type 0
   Stands t = StandsAt code.lines seen t.own.pending t.control t.own.display t.own.opened
@@ -49,12 +50,12 @@ module _ (plan : Plan) (code : Flat) (seen : List ℕ) where
   abbrev pub Accepts : TaskAt Spot → Type 0
   Accepts t = Found (found code.lines t.control.place) (λ l. OpensAccept l.last × EachOffered code.lines seen l t.control.place (length t.own.display) t.own.waits.accepts)
 
-  -- one that is completed does nothing any more
+  -- one that is completed does nothing any more; one that accepts is in no object's body
   abbrev pub TaskFramed : Status → TaskAt Spot → Type 0
   TaskFramed Created t = IsCreated t
   TaskFramed Running t = Stands t
   TaskFramed Activating t = StandsStill (λ last. last ≡ Does Activate) t
-  TaskFramed Accepting t = Stands t × ((t.own.pending ≡ None) × (Accepts t × AllOfTasks plan t.own.waits.accepts))
+  TaskFramed Accepting t = Stands t × ((t.own.pending ≡ None) × (Accepts t × (AllOfTasks plan t.own.waits.accepts × (objects_in t.own.opened ≡ []))))
   TaskFramed Delaying t = StandsStill (λ last. last ≡ Does Delay) t
   TaskFramed Calling t = Stands t × (t.own.pending ≡ None) × AtCall code.lines (t.control.place ∷ [])
   TaskFramed Completed t = Unit {0}

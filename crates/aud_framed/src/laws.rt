@@ -5,6 +5,10 @@ ghost use Rattle.aud_meaning.specs.Configuration.{Item};
 ghost use Rattle.aud_code.specs.Places.{Spot};
 ghost use Rattle.aud_framed.specs.Framed.{FramedOpensLaw, FramedSuppliedLaw, KeptFramedLaw, KeptMissedLaw};
 ghost use Rattle.aud_framed.specs.Stepping.{LoneFramedLaw, HandledStepLaw, CallKeptLaw, MasterKeptLaw, ClosedKeptLaw, PartKeptLaw, BlockKeptLaw, DelayKeptLaw, ExpiresKeptLaw, ProcedureKeptLaw, LeftKeptLaw, BodyKeptLaw, ActivationKeptLaw, AcceptKeptLaw, SelectedKeptLaw, MeetsKeptLaw, LeadsLaw};
+ghost use Rattle.aud_framed.specs.Enabled.{EnabledLaw};
+ghost use Rattle.aud_framed.specs.Turns.{EndsKeptLaw, ActsKeptLaw, TasksStepLaw};
+ghost use Rattle.aud_framed.specs.StepsOfTasks.{ActivatesKeptLaw, ActivatedKeptLaw, DeclaresTasksKeptLaw, AcceptsKeptLaw, CallsTaskKeptLaw, AcceptEndedKeptLaw, AcceptLeftKeptLaw, LeavesKeptLaw, SelectsKeptLaw};
+ghost use Rattle.aud_framed.specs.StepsOfObjects.{ActionBegunLaw, ActionEndedLaw, ServicedLaw, OperationBegunLaw, EntryEnteredLaw, OperationEndedLaw, OperationLeftLaw, EntryEndedLaw, EntryLeftLaw, ServesLaw, BarrierMetLaw, CallExpiresLaw, WithdrawsLaw, AbortedCompletesLaw, ObjectDeclaredLaw, EligibleLaw};
 ghost use Rattle.aud_framed.specs.Ways.{PartFramedLaw, InsideFramedLaw, BlockFramedLaw, AcceptFramedLaw, TurnFramedLaw, WayFramedLaw, BeginsFramedLaw, EntersFramedLaw, ServesFramedLaw, AcceptsFramedLaw, OffersFramedLaw, EndsFramedLaw, LeavesFramedLaw, ActivatesFramedLaw, HandledFramedLaw, LeftFramedLaw, HeldFitsLaw};
 
 /// Where a part of a step follows, and behind blocks, accepts and loops, a task holds the frames that are open there.
@@ -140,4 +144,125 @@ pub fn selected_kept_law()
 /// A call that is accepted at once keeps them.
 pub fn meets_kept_law()
     ensures kept { MeetsKeptLaw }
+{}
+
+/// What a declarative part has created is activated, which keeps them.
+pub fn activates_kept_law()
+    ensures kept { ActivatesKeptLaw }
+{}
+
+/// A task's own activation ends, which keeps them.
+pub fn activated_kept_law()
+    ensures kept { ActivatedKeptLaw }
+{}
+
+/// Tasks are declared, which keeps them.
+pub fn declares_tasks_kept_law()
+    ensures kept { DeclaresTasksKeptLaw }
+{}
+
+/// The step accept keeps them, whatever the accept does.
+pub fn accepts_kept_law()
+    ensures kept { AcceptsKeptLaw }
+{}
+
+/// A call of a task's entry keeps them, whether it is accepted at once, queued or refused.
+pub fn calls_task_kept_law()
+    ensures kept { CallsTaskKeptLaw }
+{}
+
+/// What an accept does is left at its end or by an exception, which keeps them.
+pub fn accept_ends_kept_law()
+    ensures ended { AcceptEndedKeptLaw }
+    ensures left { AcceptLeftKeptLaw }
+{}
+
+/// A block that is left together with loops around it keeps them.
+pub fn leaves_kept_law()
+    ensures kept { LeavesKeptLaw }
+{}
+
+/// A selective accept keeps them.
+pub fn selects_kept_law()
+    ensures kept { SelectsKeptLaw }
+{}
+
+/// An action on an object that begins, and one that ends, keep them.
+pub fn actions_law()
+    ensures begun { ActionBegunLaw }
+    ensures ended { ActionEndedLaw }
+{}
+
+/// An object that is serviced keeps them.
+pub fn serviced_law()
+    ensures serviced { ServicedLaw }
+{}
+
+/// An operation of an object that is called keeps them.
+pub fn operation_begun_law()
+    ensures begun { OperationBegunLaw }
+{}
+
+/// An entry's body that is entered keeps them.
+pub fn entry_entered_law()
+    ensures entered { EntryEnteredLaw }
+{}
+
+/// An operation of an object that is left keeps them.
+pub fn operation_ended_law()
+    ensures ended { OperationEndedLaw }
+    ensures left { OperationLeftLaw }
+{}
+
+/// An entry's body that is left keeps them.
+pub fn entry_ended_law()
+    ensures ended { EntryEndedLaw }
+    ensures left { EntryLeftLaw }
+{}
+
+/// A call on an object that is served keeps them.
+pub fn serves_law()
+    ensures serves { ServesLaw }
+    ensures eligible { EligibleLaw }
+{}
+
+/// A call that meets its entry's barrier keeps them.
+pub fn barrier_met_law()
+    ensures met { BarrierMetLaw }
+{}
+
+/// A call that is cancelled at its time, and a task that withdraws from an object, keep them.
+pub fn cancelled_law()
+    ensures expires { CallExpiresLaw }
+    ensures withdraws { WithdrawsLaw }
+{}
+
+/// An aborted task that completes keeps them.
+pub fn aborted_completes_law()
+    ensures completes { AbortedCompletesLaw }
+{}
+
+/// A protected object that is declared keeps them.
+pub fn object_declared_law()
+    ensures declared { ObjectDeclaredLaw }
+{}
+
+/// An enabled move tells that nothing is in the way of its task.
+pub fn enabled_law()
+    ensures tells { EnabledLaw }
+{}
+
+/// A construct of a task's own that is left keeps the frames that tasks hold, whatever it is.
+pub fn ends_kept_law()
+    ensures kept { EndsKeptLaw }
+{}
+
+/// What a task's own statements ask keeps them, but for calls on protected objects, aborts, and calls that accepts make again.
+pub fn acts_kept_law()
+    ensures kept { ActsKeptLaw }
+{}
+
+/// An enabled step keeps them, but for those, and for services of objects.
+pub fn tasks_step_law()
+    ensures step { TasksStepLaw }
 {}

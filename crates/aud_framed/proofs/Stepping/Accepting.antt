@@ -3,7 +3,6 @@ use Rattle.std.proofs.Common.{◌≡◌, ℕ, List, [], ◌∷◌, length, Some,
 use Rattle.aud_text.specs.declared.place.Pos.{Pos}
 use Rattle.aud_typed.specs.Tree.{Plan}
 use Rattle.aud_meaning.specs.declared.state.OpenAccept.{OpenAccept}
-use Rattle.aud_meaning.specs.declared.state.Owner.TheVariants as owner
 use Rattle.aud_meaning.specs.declared.state.Status.TheVariants.{Running, Accepting}
 use Rattle.aud_meaning.specs.Configuration.{Own, TaskAt, Waits as WaitsAt, All}
 use Rattle.aud_meaning.specs.Parts.{blocks, is_over, queue}
@@ -28,7 +27,7 @@ use Rattle.aud_framed.proofs.Stepping.Refusing.{orders}
 use Rattle.aud_framed.proofs.Stepping.Tasks.{task_good}
 
 -- in no object's body, it serves nothing and waits for no call
-waits_outside : (plan : Plan) (c : All Spot) (n : ℕ) (own : Own) (at : Pos) (waits : WaitsAt) → own.status ≡ Running → own.again ≡ None → own.serving ≡ None → objects_in own.opened ≡ [] → Follows plan c n own (blocks Accepting at waits own)
+pub waits_outside : (plan : Plan) (c : All Spot) (n : ℕ) (own : Own) (at : Pos) (waits : WaitsAt) → own.status ≡ Running → own.again ≡ None → own.serving ≡ None → objects_in own.opened ≡ [] → Follows plan c n own (blocks Accepting at waits own)
 waits_outside plan c n own at waits running still free outside = record {
   live = λ h. ap is_over running;
   waits = λ id live its h. absurd (running_outside _ own running outside h.1);
@@ -38,8 +37,8 @@ waits_outside plan c n own at waits running still free outside = record {
     objects = s.objects;
     serving = λ x e. let wrong : None ≡ Some x = sym free ∙ e in absurd cc;
     again = λ x e. let wrong : None ≡ Some x = sym still ∙ e in absurd cc;
-    restart = λ x e. let y = s.restart x e in record { served = y.served; form = y.form; entry = y.entry; outside = y.outside };
-    withdraw = λ o e. absurd (running_outside (owner.Object o) own running outside (s.withdraw o e).0);
+    restart = λ x e. let y = s.restart x e in record { served = y.served; form = y.form; entry = y.entry; outside = y.outside; apart = (y.apart.0, λ q. absurd cc) };
+    withdraw = λ o e. let h = (s.withdraw o e).0 in absurd (running_outside h.0 own running outside h.1);
   };
   abnormal = λ h. h;
 }
@@ -60,7 +59,7 @@ module _ (plan : Plan) (code : Flat) (table : List Counts) (tasks barriers seen 
               subst (λ last. OpensAccept last) (sym line) tt,
               (accept_offers code table tasks barriers seen sound fits t.control.place t.control.returns t.own.display t.own.opened (end_at code t.control.place) s a only line, tt),
             ),
-            its,
+            (its, outside),
           ),
         ),
       )

@@ -6,7 +6,6 @@ use Rattle.aud_text.specs.declared.raise.Raise.TheVariants.{Tasking}
 use Rattle.aud_typed.specs.declared.program.Exception.TheVariants.{Predefined}
 use Rattle.aud_typed.specs.Tree.{Plan}
 use Rattle.aud_meaning.specs.declared.state.Owner.{Owner}
-use Rattle.aud_meaning.specs.declared.state.Owner.TheVariants as owner
 use Rattle.aud_meaning.specs.declared.state.Pending.{Pending}
 use Rattle.aud_meaning.specs.declared.state.Status.{Status}
 use Rattle.aud_meaning.specs.declared.state.Status.TheVariants.{Created, Running, Activating, Accepting, Delaying, Calling, Completed, Terminated}
@@ -24,7 +23,7 @@ use Rattle.aud_code.specs.Sound.{Counts, IsSound}
 use Rattle.aud_code.proofs.Starts.{moved_kept}
 use Rattle.aud_framed.specs.Held.{StandsAt}
 use Rattle.aud_framed.specs.Waiting.{TaskFramed}
-use Rattle.aud_framed.specs.Calls.{AreApart, RequeueFits, ServesIn, Waits, WithinEntry, calls_in, objects_in, with_restarted, with_served}
+use Rattle.aud_framed.specs.Calls.{AreApart, IsPast, ServesIn, Waits, WithinEntry, calls_in, objects_in, with_restarted, with_served}
 use Rattle.aud_framed.specs.Ways.{StandsAtStep}
 use Rattle.aud_framed.specs.Stepping.{HasWays}
 use Rattle.aud_framed.proofs.Blocks.{activates_framed}
@@ -38,7 +37,7 @@ use Rattle.aud_framed.proofs.Stepping.Tasks.{task_good}
 -- Who waits for an activation, and whether one has failed, counts for nothing else.
 
 watched_framed : (plan : Plan) (code : Flat) (seen : List ℕ) (s : Status) (t : TaskAt Spot) (a : Option ℕ) (f : Bool) → TaskFramed plan code seen s t → TaskFramed plan code seen s (record t { own = record t.own { activator = a; failed = f } })
-watched_framed plan code seen Created t a f h = record { place = h.place; display = h.display; opened = h.opened }
+watched_framed plan code seen Created t a f h = record { place = h.place; display = h.display; opened = h.opened; none = h.none }
 watched_framed plan code seen Running t a f h = h
 watched_framed plan code seen Activating t a f h = h
 watched_framed plan code seen Accepting t a f h = h
@@ -68,7 +67,7 @@ module _ (plan : Plan) (code : Flat) (table : List Counts) (tasks barriers seen 
               objects = s.objects;
               serving = s.serving;
               again = s.again;
-              restart = λ r q. let x = s.restart r q in record { served = x.served; form = x.form; entry = x.entry; outside = x.outside };
+              restart = λ r q. let x = s.restart r q in record { served = x.served; form = x.form; entry = x.entry; outside = x.outside; apart = x.apart };
               withdraw = s.withdraw;
             };
             abnormal = λ h. h;
@@ -84,11 +83,11 @@ module _ (plan : Plan) (code : Flat) (table : List Counts) (tasks barriers seen 
       calls = subst (λ os. AreApart (with_restarted new.restart (calls_in os))) (sym r.opened) (subst (λ x. AreApart (with_restarted x (calls_in own.opened))) (sym r.restart) s.calls);
       objects = subst (λ os. AreApart (with_served new.serving (objects_in os))) (sym r.opened) (subst (λ x. AreApart (with_served x (objects_in own.opened))) (sym r.serving) s.objects);
       serving = λ x e. let h = s.serving x (sym r.serving ∙ e) in (h.0, inl r.status);
-      again = λ x e. subst (λ os. RequeueFits plan c x os) (sym r.opened) (s.again x (sym r.again ∙ e));
+      again = λ x e. let wrong : Activating ≡ Running = sym activating ∙ (s.again x (sym r.again ∙ e)).1.0 in absurd cc;
       restart = λ x e.
           let y = s.restart x (sym r.restart ∙ e) in
-          record { served = y.served; form = y.form; entry = y.entry; outside = ap (λ os. objects_in os) r.opened ∙ y.outside };
-      withdraw = λ o e. let h = s.withdraw o (sym r.withdraw ∙ e) in (waits_on (owner.Object o) h.0, h.1);
+          record { served = y.served; form = y.form; entry = y.entry; outside = ap (λ os. objects_in os) r.opened ∙ y.outside; apart = (r.serving ∙ y.apart.0, λ q. let wrong : Running ≡ Calling = sym r.status ∙ q in absurd cc) };
+      withdraw = λ o e. let h = s.withdraw o (sym r.withdraw ∙ e) in ((h.0.0, waits_on h.0.0 h.0.1), (h.1.0, (subst (λ id. IsPast plan c id) (sym r.call) h.1.1.0, h.1.1.1)));
     };
     abnormal = λ h. sym r.abnormal ∙ h;
   }

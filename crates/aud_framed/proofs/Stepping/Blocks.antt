@@ -26,7 +26,7 @@ use Rattle.aud_code.specs.Sound.{Counts, IsSound}
 use Rattle.aud_code.proofs.Starts.{moved_kept}
 use Rattle.aud_framed.specs.Held.{StandsAt}
 use Rattle.aud_framed.specs.Waiting.{TaskFramed}
-use Rattle.aud_framed.specs.Calls.{RequeueFits}
+use Rattle.aud_framed.specs.Calls.{AgainFits, RequeueFits}
 use Rattle.aud_framed.specs.Ways.{StandsAtStep}
 use Rattle.aud_framed.specs.Stepping.{DoesSome, HasWays}
 use Rattle.aud_framed.proofs.Steps.{block_framed}
@@ -93,11 +93,12 @@ module _ (plan : Plan) (code : Flat) (table : List Counts) (tasks barriers seen 
         subst (λ (x : Own). TaskFramed plan code seen x.status (record { control = behind t.control; own = x })) (sym left_is)
         (subst (λ st. TaskFramed plan code seen st (record { control = behind t.control; own = record t.own { pending = None; display = o.saved; opened = os } })) (sym running) stands)
 
-    requeues_on : (r : Again) → t.own.again ≡ Some r → RequeueFits plan c r os
+    requeues_on : (r : Again) → t.own.again ≡ Some r → AgainFits plan c r (record t.own { pending = None; display = o.saved; opened = os })
     requeues_on r e =
         let live : is_over (own_of n c).status ≡ false = ap (λ (x : Own). is_over x.status) (own_got n c.tasks t is) ∙ ap is_over running in
-        let fits_all : RequeueFits plan c r (own_of n c).opened = (w.framed.serves n live).again r (ap (λ (x : Own). x.again) (own_got n c.tasks t is) ∙ e) in
-        requeues r (subst (λ ps. RequeueFits plan c r ps) (ap (λ (x : Own). x.opened) (own_got n c.tasks t is) ∙ opened) fits_all)
+        let fits_all : AgainFits plan c r (own_of n c) = (w.framed.serves n live).again r (ap (λ (x : Own). x.again) (own_got n c.tasks t is) ∙ e) in
+        let mine : AgainFits plan c r t.own = subst (λ x. AgainFits plan c r x) (own_got n c.tasks t is) fits_all in
+        (requeues r (subst (λ ps. RequeueFits plan c r ps) opened mine.0), mine.1)
 
     kept : Follows plan c n t.own (left_end t).own
     kept =

@@ -1,5 +1,5 @@
 -- Calls that change: what is served stays served, and who waits goes on waiting.
-use Rattle.std.proofs.Common.{◌≡◌, ◌⊎◌, ℕ, zero, suc, List, [], ◌∷◌, Option, Some, None, Bool, true, false, refl, sym, ap, ◌∙◌, subst, inl, inr}
+use Rattle.std.proofs.Common.{◌≡◌, ◌⊎◌, ◌<◌, length, ℕ, zero, suc, List, [], ◌∷◌, Option, Some, None, Bool, true, false, refl, sym, ap, ◌∙◌, subst, inl, inr}
 use Rattle.std.proofs.lemmas.Bool.{eq-eqb, eqb-true, true≢false}
 use Rattle.std.specs.Prelude.{◌||◌, nat_eq}
 use Rattle.aud_typed.specs.Tree.{Plan}
@@ -16,7 +16,7 @@ use Rattle.aud_meaning.proofs.Open.Tasks.{call_at}
 use Rattle.aud_code.specs.Places.{Spot}
 use Rattle.aud_code.specs.Flat.{Flat}
 use Rattle.aud_over.specs.Over.{is_call_over}
-use Rattle.aud_framed.specs.Calls.{CallerWaits, CallsOn, EntryFits, IsAgain, IsEntryOf, RequeueFits, Serves, ServesIn, calls_in, with_restarted}
+use Rattle.aud_framed.specs.Calls.{CallerWaits, CallsOn, EntryFits, IsAgain, IsEntryOf, IsPast, RequeueFits, Serves, ServesIn, calls_in, with_restarted}
 use Rattle.aud_framed.specs.Framed.{IsFramed}
 
 abbrev pub with_calls : List Call → All Spot → All Spot
@@ -31,9 +31,24 @@ module _ (plan : Plan) (c : All Spot) (calls : List Call) (n : ℕ) where
   abbrev d : All Spot
   d = with_calls calls c
 
-  serves_in : (os : List Opened) → CallsSame c calls (calls_in os) → ServesIn plan c n os → ServesIn plan (with_calls calls c) n os
-  serves_in [] s h = tt
-  serves_in (o ∷ os) s h = by o.purpose s h (serves_in os)
+  -- calls that are not over were none before, and have their callers and owners still
+  abbrev pub LiveSame : Type 0
+  LiveSame = (i : ℕ) → is_call_over (call_at i calls).state ≡ false → (is_call_over (call_of i c).state ≡ false) × ((call_at i calls).owner ≡ (call_of i c).owner) × ((call_at i calls).caller ≡ (call_of i c).caller)
+
+  calls_on : (object : ℕ) → LiveSame → CallsOn plan c n object → CallsOn plan (with_calls calls c) n object
+  calls_on object same h i live mine = let k = same i live in k.1 ∙ h i k.0 (sym k.2 ∙ mine)
+
+  -- one that is over stays so
+  pub past : LiveSame → length c.shared.calls ≡ length calls → (id : ℕ) → IsPast plan c id → IsPast plan (with_calls calls c) id
+  past same counts id h = (subst (λ k. id < k) counts h.0, by (is_call_over (call_at id calls).state) refl)
+    where
+      by : (b : Bool) → is_call_over (call_at id calls).state ≡ b → b ≡ true
+      by true e = refl
+      by false e = absurd (true≢false (sym h.1 ∙ (same id e).0))
+
+  pub serves_in : LiveSame → (os : List Opened) → CallsSame c calls (calls_in os) → ServesIn plan c n os → ServesIn plan (with_calls calls c) n os
+  serves_in live [] s h = tt
+  serves_in live (o ∷ os) s h = by o.purpose s h (serves_in live os)
     where
       by : (p : Purpose) → CallsSame c calls (calls_in (record o { purpose = p } ∷ os)) → ServesIn plan c n (record o { purpose = p } ∷ os) → (CallsSame c calls (calls_in os) → ServesIn plan c n os → ServesIn plan (with_calls calls c) n os) → ServesIn plan (with_calls calls c) n (record o { purpose = p } ∷ os)
       by for_body s h on = (tt, on s h.1)
@@ -42,15 +57,15 @@ module _ (plan : Plan) (c : All Spot) (calls : List Call) (n : ℕ) where
       by (for_procedure r) s h on = (tt, on s h.1)
       by (for_operation m r) s h on = (h.0, on s h.1)
       by (for_entry m id served back) s h on =
-          ((subst (λ (a : Call). (a.state ≡ Selected) × (a.owner ≡ owner.Object m)) (sym s.0) h.0.0, h.0.1), on s.1 h.1)
+          ((subst (λ (a : Call). (a.state ≡ Selected) × (a.owner ≡ owner.Object m)) (sym s.0) h.0.0, (h.0.1.0, λ e. calls_on m live (h.0.1.1 e))), on s.1 h.1)
       by (for_accept id) s h on =
           ((subst (λ (a : Call). (a.state ≡ Selected) × (a.owner ≡ owner.Task n)) (sym s.0) h.0.0, h.0.1), on s.1 h.1)
 
-  opened_same : (r : Option Restart) (ns : List ℕ) → CallsSame c calls (with_restarted r ns) → CallsSame c calls ns
+  pub opened_same : (r : Option Restart) (ns : List ℕ) → CallsSame c calls (with_restarted r ns) → CallsSame c calls ns
   opened_same None ns s = s
   opened_same (Some r) ns s = s.1
 
-  again_in : (r : Again) (os : List Opened) → RequeueFits plan c r os → RequeueFits plan (with_calls calls c) r os
+  pub again_in : (r : Again) (os : List Opened) → RequeueFits plan c r os → RequeueFits plan (with_calls calls c) r os
   again_in r [] h = h
   again_in r (o ∷ os) h = by o.purpose h (again_in r os)
     where
@@ -67,24 +82,17 @@ module _ (plan : Plan) (c : All Spot) (calls : List Call) (n : ℕ) where
           fits (owner.Task m) h = h
           fits (owner.Object m) h = h
 
-  -- calls that are not over were none before, and have their callers and owners still
-  abbrev pub LiveSame : Type 0
-  LiveSame = (i : ℕ) → is_call_over (call_at i calls).state ≡ false → (is_call_over (call_of i c).state ≡ false) × ((call_at i calls).owner ≡ (call_of i c).owner) × ((call_at i calls).caller ≡ (call_of i c).caller)
-
-  calls_on : (object : ℕ) → LiveSame → CallsOn plan c n object → CallsOn plan (with_calls calls c) n object
-  calls_on object same h i live mine = let k = same i live in k.1 ∙ h i k.0 (sym k.2 ∙ mine)
-
   may_serve : (object : ℕ) (own : Own) → LiveSame → (own.status ≡ Running) ⊎ ((own.status ≡ Calling) × CallsOn plan c n object) → (own.status ≡ Running) ⊎ ((own.status ≡ Calling) × CallsOn plan (with_calls calls c) n object)
   may_serve object own same (inl h) = inl h
   may_serve object own same (inr h) = inr (h.0, calls_on object same h.1)
 
-  pub serves_calls : (own : Own) → LiveSame → CallsSame c calls (with_restarted own.restart (calls_in own.opened)) → Serves plan c n own → Serves plan (with_calls calls c) n own
-  serves_calls own live same s = record {
-    opened = serves_in own.opened (opened_same own.restart (calls_in own.opened) same) s.opened;
+  pub serves_calls : (own : Own) → length c.shared.calls ≡ length calls → LiveSame → CallsSame c calls (with_restarted own.restart (calls_in own.opened)) → Serves plan c n own → Serves plan (with_calls calls c) n own
+  serves_calls own counts live same s = record {
+    opened = serves_in live own.opened (opened_same own.restart (calls_in own.opened) same) s.opened;
     calls = s.calls;
     objects = s.objects;
     serving = λ x e. let h = s.serving x e in (h.0, may_serve x.object own live h.1);
-    again = λ r e. again_in r own.opened (s.again r e);
+    again = λ r e. let k = s.again r e in (again_in r own.opened k.0, k.1);
     restart = λ r e.
         let x = s.restart r e in
         let is : call_at r.call calls ≡ call_of r.call c = (subst (λ o. CallsSame c calls (with_restarted o (calls_in own.opened))) e same).0 in
@@ -93,13 +101,19 @@ module _ (plan : Plan) (c : All Spot) (calls : List Call) (n : ℕ) where
           form = subst (λ (a : Call). IsAgain a.form) (sym is) x.form;
           entry = subst (λ (a : Call). EntryFits plan c (owner.Object r.object) a.entry) (sym is) x.entry;
           outside = x.outside;
+          apart = x.apart;
         };
     withdraw = λ o e.
         let h = s.withdraw o e in
-        (h.0, λ i alive mine. let k = live i alive in h.1 i k.0 (sym k.2 ∙ mine));
+        (h.0, (λ i alive mine. let k = live i alive in h.1.0 i k.0 (sym k.2 ∙ mine), (past live counts own.call h.1.1.0, h.1.1.1)));
   }
 
 -- One call changes.
+
+pub counted : (id : ℕ) (f : Call → Call) (calls : List Call) → length calls ≡ length (changed id f calls)
+counted id f [] = refl
+counted zero f (a ∷ more) = refl
+counted (suc id) f (a ∷ more) = ap suc (counted id f more)
 
 pub other_call : (id i : ℕ) (f : Call → Call) (calls : List Call) → (id ≡ i → ⊥) → call_at i (changed id f calls) ≡ call_at i calls
 other_call id i f [] differs = refl
@@ -140,7 +154,7 @@ over_stays (suc id) (suc i) f (a ∷ more) over h = over_stays id i f more over 
 pub queued_live : (s : CallState) → s ≡ Queued → is_call_over s ≡ false
 queued_live s e = ap is_call_over e
 
-like_same : (id i : ℕ) (f : Call → Call) (c : All Spot) → ((a : Call) → is_call_over (f a).state ≡ true) → is_call_over (call_at i (changed id f c.shared.calls)).state ≡ false → (is_call_over (call_of i c).state ≡ false) × ((call_at i (changed id f c.shared.calls)).owner ≡ (call_of i c).owner) × ((call_at i (changed id f c.shared.calls)).caller ≡ (call_of i c).caller)
+pub like_same : (id i : ℕ) (f : Call → Call) (c : All Spot) → ((a : Call) → is_call_over (f a).state ≡ true) → is_call_over (call_at i (changed id f c.shared.calls)).state ≡ false → (is_call_over (call_of i c).state ≡ false) × ((call_at i (changed id f c.shared.calls)).owner ≡ (call_of i c).owner) × ((call_at i (changed id f c.shared.calls)).caller ≡ (call_of i c).caller)
 like_same id i f c over live =
     let is : call_at i (changed id f c.shared.calls) ≡ call_of i c = live_same id i f c.shared.calls over live in
     (subst (λ (a : Call). is_call_over a.state ≡ false) is live, ap (λ (a : Call). a.owner) is, ap (λ (a : Call). a.caller) is)
@@ -167,7 +181,7 @@ over_framed plan code seen id f c over free w = record {
   stays = λ i queued ill.
       let is : call_at i (changed id f c.shared.calls) ≡ call_of i c = live_same id i f c.shared.calls over (queued_live _ queued) in
       ap (λ (a : Call). a.stays) is ∙ w.stays i (ap (λ (a : Call). a.state) (sym is) ∙ queued) (ap (λ (a : Call). (own_of a.caller c).abnormal) (sym is) ∙ ill);
-  serves = λ n live. serves_calls plan c (changed id f c.shared.calls) n (own_of n c) (λ i live. like_same id i f c over live) (others_same id f c (served_by (own_of n c)) (free n live)) (w.serves n live);
+  serves = λ n live. serves_calls plan c (changed id f c.shared.calls) n (own_of n c) (counted id f c.shared.calls) (λ i live. like_same id i f c over live) (others_same id f c (served_by (own_of n c)) (free n live)) (w.serves n live);
   alone = w.alone;
 }
 
@@ -180,7 +194,7 @@ other_number c id i queued selected = by (nat_eq id i) refl
     by true e = let clash : Queued ≡ Selected = sym queued ∙ (ap (λ j. (call_of j c).state) (eqb-true id i e) ∙ selected) in absurd cc
     by false e = refl
 
-neither : (a b : Bool) → a ≡ false → b ≡ false → a || b ≡ false
+pub neither : (a b : Bool) → a ≡ false → b ≡ false → a || b ≡ false
 neither false b h k = k
 neither true b h k = h
 

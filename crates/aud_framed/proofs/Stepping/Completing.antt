@@ -23,7 +23,7 @@ use Rattle.aud_code.specs.Seen.{IsSeen}
 use Rattle.aud_code.specs.Sound.{Counts, IsSound}
 use Rattle.aud_code.specs.Starts.{IsSpot}
 use Rattle.aud_over.specs.Over.{is_call_over}
-use Rattle.aud_framed.specs.Calls.{AreApart, Serves, ServesIn, Waits, calls_in, with_restarted}
+use Rattle.aud_framed.specs.Calls.{AreApart, CallerWaits, Serves, ServesIn, Waits, calls_in, with_restarted}
 use Rattle.aud_framed.specs.Stepping.{HasWays}
 use Rattle.aud_framed.proofs.Stepping.Activation.{activation_over}
 use Rattle.aud_framed.proofs.Stepping.Blocks.{own_changed}
@@ -168,7 +168,7 @@ module _ (plan : Plan) (code : Flat) (table : List Counts) (tasks barriers seen 
   apart_opened (Some r) ns a = a.1
 
   -- a task completes that calls nobody, wherever it went
-  module _ (raised : Option Exception) (n : ℕ) (c : All Spot) (t : TaskAt Spot) (to : Spot → Spot) (w : Kept c) (is : slice_get c.tasks n ≡ Some t) (alive : is_over t.own.status ≡ false) (places : (s : Spot) → IsSpot code.lines s → IsSpot code.lines (to s)) (calls : (o : Owner) → Waits o t.own → ⊥) where
+  module _ (raised : Option Exception) (n : ℕ) (c : All Spot) (t : TaskAt Spot) (to : Spot → Spot) (w : Kept c) (is : slice_get c.tasks n ≡ Some t) (alive : is_over t.own.status ≡ false) (places : (s : Spot) → IsSpot code.lines s → IsSpot code.lines (to s)) (calls : (id : ℕ) → is_call_over (call_of id c).state ≡ false → (call_of id c).caller ≡ n → CallerWaits id (call_of id c) t.own → ⊥) where
     abbrev pub start : TaskAt Spot → TaskAt Spot
     start u = record u { control = to u.control; own = record u.own { pending = None } }
 
@@ -186,7 +186,7 @@ module _ (plan : Plan) (code : Flat) (table : List Counts) (tasks barriers seen 
         task_good plan code table tasks barriers seen sound fits ways n both c t is tt
         (record {
           live = λ h. absurd (true≢false h);
-          waits = λ id live mine h. absurd (calls (call_of id c).owner h.1);
+          waits = λ id live mine h. absurd (calls id live mine h);
           serves = λ live s. absurd (true≢false live);
           abnormal = λ h. h;
         }) (λ u h. places u.control h) w

@@ -8,7 +8,6 @@ use Rattle.aud_typed.specs.declared.program.Exception.TheVariants.{Predefined}
 use Rattle.aud_typed.specs.Tree.{Plan}
 use Rattle.aud_meaning.specs.declared.state.Action.{Action}
 use Rattle.aud_meaning.specs.declared.state.Owner.{Owner}
-use Rattle.aud_meaning.specs.declared.state.Owner.TheVariants as owner
 use Rattle.aud_meaning.specs.declared.state.Status.TheVariants.{Running, Accepting, Delaying, Calling}
 use Rattle.aud_meaning.specs.Configuration.{Purpose, for_body, for_block, for_loop, for_procedure, for_operation, for_entry, for_accept, Opened, Own, Object, TaskAt, Waits as WaitsAt, All}
 use Rattle.aud_meaning.specs.Control.{here, takes_part}
@@ -23,7 +22,7 @@ use Rattle.aud_code.specs.Sound.{Counts, IsSound}
 use Rattle.aud_code.proofs.Starts.{moved_kept}
 use Rattle.aud_framed.specs.Held.{StandsAt}
 use Rattle.aud_framed.specs.Waiting.{EachOffered, TaskFramed}
-use Rattle.aud_framed.specs.Calls.{AreApart, RequeueFits, Serves, ServesIn, Waits, WithinEntry, calls_in, changes, objects_in, with_restarted, with_served}
+use Rattle.aud_framed.specs.Calls.{AreApart, Serves, ServesIn, Waits, WithinEntry, calls_in, changes, objects_in, with_restarted, with_served}
 use Rattle.aud_framed.specs.Ways.{StandsAtStep}
 use Rattle.aud_framed.specs.Stepping.{DoesPlain, HasWays}
 use Rattle.aud_framed.proofs.Stepping.Blocks.{raised_good}
@@ -45,7 +44,7 @@ none_acts n (o ∷ os) i h = by (acts_on n o) refl h i (λ j. none_acts n os j)
     by false e h zero on = e
     by false e h (suc j) on = on j h
 
-changing_acts : (n : ℕ) (ones : List Action) → any (λ (a : Action). nat_eq a.task n && not a.reading) ones ≡ true → any (λ (a : Action). nat_eq a.task n) ones ≡ true
+pub changing_acts : (n : ℕ) (ones : List Action) → any (λ (a : Action). nat_eq a.task n && not a.reading) ones ≡ true → any (λ (a : Action). nat_eq a.task n) ones ≡ true
 changing_acts n [] h = h
 changing_acts n (a ∷ more) h = by (nat_eq a.task n) (not a.reading) h (changing_acts n more)
   where
@@ -54,7 +53,7 @@ changing_acts n (a ∷ more) h = by (nat_eq a.task n) (not a.reading) h (changin
     by false r h on = on h
 
 module _ (plan : Plan) (c : All Spot) (n : ℕ) (free : in_action n c ≡ false) where
-  no_change : (object : ℕ) → changes plan c n object ≡ true → ⊥
+  pub no_change : (object : ℕ) → changes plan c n object ≡ true → ⊥
   no_change object h = true≢false (sym (changing_acts n (object_of object c).actions h) ∙ none_acts n c.shared.objects object free)
 
   pub outside : (os : List Opened) → ServesIn plan c n os → objects_in os ≡ []
@@ -66,8 +65,8 @@ module _ (plan : Plan) (c : All Spot) (n : ℕ) (free : in_action n c ≡ false)
       by for_block h on = on h.1
       by for_loop h on = on h.1
       by (for_procedure r) h on = on h.1
-      by (for_operation object r) h on = absurd (true≢false (sym h.0 ∙ none_acts n c.shared.objects object free))
-      by (for_entry object id served back) h on = absurd (no_change object h.0.1)
+      by (for_operation object r) h on = absurd (true≢false (sym h.0.0 ∙ none_acts n c.shared.objects object free))
+      by (for_entry object id served back) h on = absurd (no_change object h.0.1.0)
       by (for_accept id) h on = on h.1
 
 pub not_within : (o : Owner) (os : List Opened) → objects_in os ≡ [] → WithinEntry o os → ⊥
@@ -87,7 +86,7 @@ pub running_outside : (o : Owner) (own : Own) → own.status ≡ Running → obj
 running_outside o own running e (inl h) = let wrong : Running ≡ Calling = sym running ∙ h in absurd cc
 running_outside o own running e (inr h) = not_within o own.opened e h.1
 
-accept_plain : (last : Last) → OpensAccept last → DoesPlain last
+pub accept_plain : (last : Last) → OpensAccept last → DoesPlain last
 accept_plain (Does (Accept entry region)) h = (Accept entry region, (refl, tt))
 accept_plain (Does (Select has_else)) h = (Select has_else, (refl, tt))
 accept_plain last h = absurd h
@@ -106,11 +105,11 @@ module _ (plan : Plan) (code : Flat) (table : List Counts) (tasks barriers seen 
       calls = subst (λ os. AreApart (with_restarted new.restart (calls_in os))) (sym r.opened) (subst (λ x. AreApart (with_restarted x (calls_in own.opened))) (sym r.restart) s.calls);
       objects = subst (λ os. AreApart (with_served new.serving (objects_in os))) (sym r.opened) (subst (λ x. AreApart (with_served x (objects_in own.opened))) (sym r.serving) s.objects);
       serving = λ x e. let h = s.serving x (sym r.serving ∙ e) in (h.0, inl r.status);
-      again = λ x e. subst (λ os. RequeueFits plan c x os) (sym r.opened) (s.again x (sym r.again ∙ e));
+      again = λ x e. absurd (subst (λ q. Rests q) (s.again x (sym r.again ∙ e)).1.0 rests);
       restart = λ x e.
           let y = s.restart x (sym r.restart ∙ e) in
-          record { served = y.served; form = y.form; entry = y.entry; outside = ap (λ os. objects_in os) r.opened ∙ y.outside };
-      withdraw = λ o e. absurd (rest_waits (owner.Object o) own rests (s.withdraw o (sym r.withdraw ∙ e)).0);
+          record { served = y.served; form = y.form; entry = y.entry; outside = ap (λ os. objects_in os) r.opened ∙ y.outside; apart = (r.serving ∙ y.apart.0, λ q. let wrong : Running ≡ Calling = sym r.status ∙ q in absurd cc) };
+      withdraw = λ o e. let h = (s.withdraw o (sym r.withdraw ∙ e)).0 in absurd (rest_waits h.0 own rests h.1);
     };
     abnormal = λ h. sym r.abnormal ∙ h;
   }
@@ -158,8 +157,8 @@ module _ (plan : Plan) (code : Flat) (table : List Counts) (tasks barriers seen 
       objects = s.objects;
       serving = λ x e. absurd (no_change plan c n free x.object (s.serving x e).0);
       again = λ x e. let wrong : None ≡ Some x = sym still ∙ e in absurd cc;
-      restart = λ x e. let y = s.restart x e in record { served = y.served; form = y.form; entry = y.entry; outside = y.outside };
-      withdraw = λ o e. absurd (running_outside (owner.Object o) own running (outside plan c n free own.opened s.opened) (s.withdraw o e).0);
+      restart = λ x e. let y = s.restart x e in record { served = y.served; form = y.form; entry = y.entry; outside = y.outside; apart = (y.apart.0, λ q. absurd cc) };
+      withdraw = λ o e. let h = (s.withdraw o e).0 in absurd (running_outside h.0 own running (outside plan c n free own.opened s.opened) h.1);
     };
     abnormal = λ h. h;
   }

@@ -27,7 +27,7 @@ use Rattle.aud_code.proofs.Starts.{moved_kept}
 use Rattle.aud_over.specs.Over.{is_call_over}
 use Rattle.aud_framed.specs.Held.{IsCall, StandsAt}
 use Rattle.aud_framed.specs.Waiting.{TaskFramed}
-use Rattle.aud_framed.specs.Calls.{AreApart, RequeueFits, Serves, ServesIn, Waits, WithinEntry, calls_in, objects_in, with_restarted, with_served}
+use Rattle.aud_framed.specs.Calls.{AreApart, Serves, ServesIn, Waits, WithinEntry, calls_in, objects_in, with_restarted, with_served}
 use Rattle.aud_framed.specs.Ways.{StandsAtStep}
 use Rattle.aud_framed.specs.Stepping.{DoesPlain, HasWays, IsKept}
 use Rattle.aud_framed.proofs.Stepping.Calls.{IsUnserved, now_over, over_framed}
@@ -60,7 +60,7 @@ got_there n [] h = absurd (h refl)
 got_there zero (t ∷ ts) h = (t, refl)
 got_there (suc n) (t ∷ ts) h = got_there n ts h
 
-call_plain : (last : Last) → IsCall last → DoesPlain last
+pub call_plain : (last : Last) → IsCall last → DoesPlain last
 call_plain last (inl h) = (CallTask h.0 h.1, (h.2, tt))
 call_plain last (inr h) = (CallObject h.0 h.1 h.2, (h.3, tt))
 
@@ -85,7 +85,7 @@ module _ (plan : Plan) (code : Flat) (table : List Counts) (tasks barriers seen 
     pub call : IsCall (end_at code t.control.place).last
     pub none : t.own.pending ≡ None
 
-  calling : (c : All Spot) (n : ℕ) (t : TaskAt Spot) → Good c → slice_get c.tasks n ≡ Some t → t.own.status ≡ Calling → StandsCalling t
+  pub calling : (c : All Spot) (n : ℕ) (t : TaskAt Spot) → Good c → slice_get c.tasks n ≡ Some t → t.own.status ≡ Calling → StandsCalling t
   calling c n t w is e = by (subst (λ s. TaskFramed plan code seen s t) e (framed_at plan code seen n c.tasks t is w.framed.tasks))
     where
       by : TaskFramed plan code seen Calling t → StandsCalling t
@@ -119,7 +119,7 @@ module _ (plan : Plan) (code : Flat) (table : List Counts) (tasks barriers seen 
     pub withdraw : new.withdraw ≡ own.withdraw
     pub abnormal : new.abnormal ≡ own.abnormal
 
-  runner : (c : All Spot) (n : ℕ) (own new : Own) → RunsOn own new → own.status ≡ Calling → own.withdraw ≡ None → is_call_over (call_of own.call c).state ≡ true → Follows plan c n own new
+  pub runner : (c : All Spot) (n : ℕ) (own new : Own) → RunsOn own new → own.status ≡ Calling → own.withdraw ≡ None → is_call_over (call_of own.call c).state ≡ true → Follows plan c n own new
   runner c n own new r calling none over = record {
     live = λ h. subst (λ s. is_over s ≡ false) (sym calling) refl;
     waits = λ id live mine h. absurd (true≢false (sym over ∙ subst (λ i. is_call_over (call_of i c).state ≡ false) (sym h.0) live));
@@ -128,10 +128,10 @@ module _ (plan : Plan) (code : Flat) (table : List Counts) (tasks barriers seen 
       calls = subst (λ os. AreApart (with_restarted new.restart (calls_in os))) (sym r.opened) (subst (λ x. AreApart (with_restarted x (calls_in own.opened))) (sym r.restart) s.calls);
       objects = subst (λ os. AreApart (with_served new.serving (objects_in os))) (sym r.opened) (subst (λ x. AreApart (with_served x (objects_in own.opened))) (sym r.serving) s.objects);
       serving = λ x e. let h = s.serving x (sym r.serving ∙ e) in (h.0, inl r.status);
-      again = λ x e. subst (λ os. RequeueFits plan c x os) (sym r.opened) (s.again x (sym r.again ∙ e));
+      again = λ x e. let wrong : Calling ≡ Running = sym calling ∙ (s.again x (sym r.again ∙ e)).1.0 in absurd cc;
       restart = λ x e.
           let y = s.restart x (sym r.restart ∙ e) in
-          record { served = y.served; form = y.form; entry = y.entry; outside = ap (λ os. objects_in os) r.opened ∙ y.outside };
+          record { served = y.served; form = y.form; entry = y.entry; outside = ap (λ os. objects_in os) r.opened ∙ y.outside; apart = (r.serving ∙ y.apart.0, λ q. absurd (y.apart.1 calling)) };
       withdraw = λ o e. let clash = sym none ∙ (sym r.withdraw ∙ e) in absurd cc;
     };
     abnormal = λ h. sym r.abnormal ∙ h;
@@ -147,12 +147,12 @@ module _ (plan : Plan) (code : Flat) (table : List Counts) (tasks barriers seen 
   abbrev pub is_done : Call → Call
   is_done a = record a { state = Done }
 
-  none_to_withdraw : (c : All Spot) (n id : ℕ) → Serves plan c n (own_of n c) → is_call_over (call_of id c).state ≡ false → (call_of id c).caller ≡ n → (own_of n c).withdraw ≡ None
+  pub none_to_withdraw : (c : All Spot) (n id : ℕ) → Serves plan c n (own_of n c) → is_call_over (call_of id c).state ≡ false → (call_of id c).caller ≡ n → (own_of n c).withdraw ≡ None
   none_to_withdraw c n id s live mine = by (own_of n c).withdraw refl
     where
       by : (o : Option ℕ) → (own_of n c).withdraw ≡ o → o ≡ None
       by None e = refl
-      by (Some object) e = absurd ((s.withdraw object e).1 id live mine)
+      by (Some object) e = absurd ((s.withdraw object e).1.0 id live mine)
 
   module _ (c : All Spot) (id : ℕ) (w : Good c) (live : is_call_over (call_of id c).state ≡ false) (free : IsUnserved id c) (waiting : (own_of (call_of id c).caller c).status ≡ Calling) where
     abbrev pub m : ℕ

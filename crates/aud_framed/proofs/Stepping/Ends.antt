@@ -37,7 +37,7 @@ use Rattle.aud_framed.proofs.Stepping.Refusing.{Became, orders}
 use Rattle.aud_framed.proofs.Stepping.Tasks.{fused, no_loops, unchanged}
 
 -- A task that stands at a place whatever is pending there stands at a statement.
-does_some : (code : Flat) (seen : List ℕ) (s : Spot) (display : List ℕ) (os : List Opened) → Pending → ((p : Option Pending) → StandsAt code.lines seen p s display os) → DoesSome (end_at code s.place).last
+pub does_some : (code : Flat) (seen : List ℕ) (s : Spot) (display : List ℕ) (os : List Opened) → Pending → ((p : Option Pending) → StandsAt code.lines seen p s display os) → DoesSome (end_at code s.place).last
 does_some code seen s display os p h = by (found code.lines s.place) (end_found code s.place _ (h None)) (h None) (h (Some p))
   where
     go : Option ℕ → Type 0
@@ -59,7 +59,7 @@ does_some code seen s display os p h = by (found code.lines s.place) (end_found 
     by None e a b = absurd a
     by (Some l) e a b = subst (λ (y : EndLine). DoesSome y.last) (same_Some l (end_at code s.place) e) (kind l.last l a b)
 
-first_same : (x y : Opened) (xs ys : List Opened) → x ∷ xs ≡ y ∷ ys → (x ≡ y) × (xs ≡ ys)
+pub first_same : (x y : Opened) (xs ys : List Opened) → x ∷ xs ≡ y ∷ ys → (x ≡ y) × (xs ≡ ys)
 first_same x y xs ys e = (ap head e, ap tail e)
   where
     head : List Opened → Opened
@@ -70,7 +70,7 @@ first_same x y xs ys e = (ap head e, ap tail e)
     tail [] = []
     tail (z ∷ zs) = zs
 
-some_pending : Pending
+pub some_pending : Pending
 some_pending = record { exception = Predefined Program; at = record { line = 0; col = 0 } }
 
 module _ (plan : Plan) (code : Flat) (table : List Counts) (tasks barriers seen : List ℕ) (sound : IsSound code) (fits : IsSeen code table tasks barriers seen) (ways : HasWays code) where

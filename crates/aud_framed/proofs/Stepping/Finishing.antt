@@ -8,7 +8,7 @@ use Rattle.aud_meaning.specs.declared.state.Status.TheVariants.{Running, Calling
 use Rattle.aud_meaning.specs.Configuration.{for_body, Opened, Own, TaskAt, All}
 use Rattle.aud_meaning.specs.Control.{ends, here, is_left_by, out_by, passes_end}
 use Rattle.aud_meaning.specs.Effects.{out_of, out_of_loops}
-use Rattle.aud_meaning.specs.Parts.{exception_of, is_over, on_task, own_of}
+use Rattle.aud_meaning.specs.Parts.{call_of, exception_of, is_over, on_task, own_of}
 use Rattle.aud_meaning.specs.Step.{done}
 use Rattle.aud_meaning.specs.Tasks as effect
 use Rattle.aud_code.specs.Places.{Spot}
@@ -42,7 +42,7 @@ module _ (plan : Plan) (code : Flat) (table : List Counts) (tasks barriers seen 
       subst (λ d. Fine d)
       (sym (ap (λ ps. effect.at_end_of (orders plan code table tasks barriers seen sound fits ways) plan (flat_controls plan code).barrier alternative ps p n (on_task n start c)) innermost_is
       ∙ ap (λ q. effect.at_end_by (orders plan code table tasks barriers seen sound fits ways) plan (flat_controls plan code).barrier alternative q p o n (on_task n start c)) body))
-      (completed plan code table tasks barriers seen sound fits ways (exception_of p) n c t to w is (ap is_over running) places (calls_none plan c n t.own o running inner body))
+      (completed plan code table tasks barriers seen sound fits ways (exception_of p) n c t to w is (ap is_over running) places (λ id live mine h. calls_none plan c n t.own o running inner body (call_of id c).owner h.1))
     where
       start : TaskAt Spot → TaskAt Spot
       start = λ u. record u { control = to u.control; own = record u.own { pending = None } }

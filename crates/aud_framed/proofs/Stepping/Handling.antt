@@ -26,7 +26,7 @@ use Rattle.aud_framed.proofs.Stepping.Parts.{Follows, Likens, Side, follows, fra
 
 -- Frames of loops that are left.
 
-a_loop : (p : Purpose) → is_loop p ≡ true → p ≡ for_loop
+pub a_loop : (p : Purpose) → is_loop p ≡ true → p ≡ for_loop
 a_loop for_body h = absurd (false≢true h)
 a_loop for_block h = absurd (false≢true h)
 a_loop for_loop h = refl

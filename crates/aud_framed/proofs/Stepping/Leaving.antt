@@ -13,7 +13,7 @@ use Rattle.aud_meaning.specs.declared.state.Status.TheVariants.{Running}
 use Rattle.aud_meaning.specs.Configuration.{Returning, Opened, Own, TaskAt, All}
 use Rattle.aud_meaning.specs.Control.{here, takes_part}
 use Rattle.aud_meaning.specs.Effects.{CopiedBack, closed, closed_by, is_loop, out_of_loops, out_of_loops_by}
-use Rattle.aud_meaning.specs.Parts.{Closable, changed, on_task, with_frames}
+use Rattle.aud_meaning.specs.Parts.{Closable, changed, is_over, on_task, with_frames}
 use Rattle.aud_meaning.specs.Tasks as effect
 use Rattle.aud_code.specs.Places.{Spot}
 use Rattle.aud_code.specs.Flat.{Flat, end_at, flat_controls}
@@ -23,14 +23,14 @@ use Rattle.aud_code.specs.Starts.{IsSpot}
 use Rattle.aud_code.proofs.Starts.{moved_kept}
 use Rattle.aud_framed.specs.Held.{StandsAt}
 use Rattle.aud_framed.specs.Waiting.{TaskFramed}
-use Rattle.aud_framed.specs.Calls.{RequeueFits}
+use Rattle.aud_framed.specs.Calls.{AgainFits, RequeueFits}
 use Rattle.aud_framed.specs.Stepping.{DoesSome, HasWays}
 use Rattle.aud_framed.proofs.Stepping.Blocks.{raised_good}
 use Rattle.aud_framed.proofs.Stepping.Closing.{master_closed}
 use Rattle.aud_framed.proofs.Stepping.Ending.{Good, with_frames_good}
 use Rattle.aud_framed.proofs.Stepping.Going.{first_goes}
 use Rattle.aud_framed.proofs.Stepping.Lone.{at_step}
-use Rattle.aud_framed.proofs.Stepping.Parts.{Follows, Likens, follows, like_frames, same_task}
+use Rattle.aud_framed.proofs.Stepping.Parts.{Follows, Likens, follows, like_frames, own_got, same_task}
 use Rattle.aud_framed.proofs.Stepping.Handling.{loops_likens}
 use Rattle.aud_framed.proofs.Stepping.Refusing.{Became, orders}
 use Rattle.aud_framed.proofs.Stepping.Tasks.{closable_same, dependent, task_good}
@@ -88,10 +88,15 @@ module _ (plan : Plan) (code : Flat) (table : List Counts) (tasks barriers seen 
         then_frames plan c n t.own.opened (o ∷ os) os
         (subst (λ ps. Likens plan c n t.own.opened ps) inner (loops_likens plan c n t.own.opened t.own refl)) around
 
+    mine : (r : Again) → t.own.again ≡ Some r → AgainFits plan c r t.own
+    mine r e =
+        subst (λ x. AgainFits plan c r x) (own_got n c.tasks t is)
+        ((w.framed.serves n (ap (λ (x : Own). is_over x.status) (own_got n c.tasks t is) ∙ ap is_over running)).again r (ap (λ (x : Own). x.again) (own_got n c.tasks t is) ∙ e))
+
     kept : Follows plan c n t.own (left t).own
     kept =
         subst (λ x. Follows plan c n t.own x) (sym left_is)
-        (follows plan c n t.own (record t.own { pending = q; display = o.saved; opened = os }) refl again likens)
+        (follows plan c n t.own (record t.own { pending = q; display = o.saved; opened = os }) refl (λ r e. (again r e, (mine r e).1)) likens)
 
     pub left_good : Kept (on_task n left c)
     left_good =

@@ -320,7 +320,7 @@ at_step plan code seen n c t spots is running none w = record { begins = begins_
         (subst (λ st. TaskFramed plan code seen st t) running (framed_at plan code seen n c.tasks t is w.tasks))
 
 pub lone_framed : LoneFramedLaw
-lone_framed plan code table tasks barriers seen limits alternative n c t sound fits levels ways spots is running none alone meets w =
+lone_framed plan code table tasks barriers seen limits alternative n c t sound fits levels ways spots is running none unserving unmade alone meets w =
     let k = flat_controls plan code in
     let scene : Scene = scene_of plan k n c in
     let a : Asked = asked_at code None scene t.control in
@@ -334,4 +334,4 @@ lone_framed plan code table tasks barriers seen limits alternative n c t sound f
     subst (λ d. IsFramed plan code seen d) (sym (alone_law (carried_out k) plan k.barrier limits alternative a alone n c))
     (alone_framed plan code seen f n c t is kept.calls kept.objects
     (subst (λ st. TaskFramed plan code seen st (record { control = u.control; own = u.own })) (sym (ap (λ (x : Side). x.status) kept.same ∙ running)) kept.stands)
-    (follows plan c n t.own u.own kept.same kept.again kept.likens) w)
+    (follows plan c n t.own u.own kept.same (λ r e. (kept.again r e, (ap (λ (x : Side). x.status) kept.same ∙ running, (ap (λ (x : Side). x.serving) kept.same ∙ unserving, ap (λ (x : Side). x.restart) kept.same ∙ unmade)))) kept.likens) w)

@@ -41,7 +41,7 @@ pub record IsIn (n entry : ℕ) (a : Call) : Type 0 where
   pub entry_is : a.entry ≡ entry
   pub owner_is : owner_number a.owner ≡ n
 
-queued_state : (s : CallState) → is_queued s ≡ true → s ≡ Queued
+pub queued_state : (s : CallState) → is_queued s ≡ true → s ≡ Queued
 queued_state Queued h = refl
 queued_state Selected h = absurd (false≢true h)
 queued_state Done h = absurd (false≢true h)
@@ -89,11 +89,11 @@ pub first_in : (n entry : ℕ) (c : All Spot) (w : Waiting) (ws : List Waiting) 
 first_in n entry c w ws e = (subst (λ qs. EachIn (λ (x : Waiting). IsIn n entry (call_of x.call c)) qs) e (queue_each n entry 0 c.shared.calls (λ i. call_of i c) (found_all c.shared.calls))).0
 
 -- on a task's entry
-its_task : (plan : Plan) (c : All Spot) (n entry : ℕ) (o : Owner) → IsEntryOf plan c o entry → is_of_object plan entry ≡ false → owner_number o ≡ n → o ≡ owner.Task n
+pub its_task : (plan : Plan) (c : All Spot) (n entry : ℕ) (o : Owner) → IsEntryOf plan c o entry → is_of_object plan entry ≡ false → owner_number o ≡ n → o ≡ owner.Task n
 its_task plan c n entry (owner.Task m) h e q = ap (λ k. owner.Task k) q
-its_task plan c n entry (owner.Object m) h e q = absurd (true≢false (sym h ∙ e))
+its_task plan c n entry (owner.Object m) h e q = absurd (true≢false (sym h.0 ∙ e))
 
-now_selected : (id : ℕ) (calls : List Call) → (call_at id calls).state ≡ Queued → (call_at id (changed id (λ (a : Call). record a { state = Selected }) calls)).state ≡ Selected
+pub now_selected : (id : ℕ) (calls : List Call) → (call_at id calls).state ≡ Queued → (call_at id (changed id (λ (a : Call). record a { state = Selected }) calls)).state ≡ Selected
 now_selected id [] h = absurd cc
 now_selected zero (a ∷ more) h = refl
 now_selected (suc id) (a ∷ more) h = now_selected id more h

@@ -4,7 +4,6 @@ use Rattle.std.proofs.lemmas.Option.{same_Some}
 use Rattle.aud_typed.specs.Tree.{Plan}
 use Rattle.aud_meaning.specs.declared.state.Again.{Again}
 use Rattle.aud_meaning.specs.declared.state.Owner.{Owner}
-use Rattle.aud_meaning.specs.declared.state.Owner.TheVariants as owner
 use Rattle.aud_meaning.specs.declared.state.Restart.{Restart}
 use Rattle.aud_meaning.specs.declared.state.Serving.{Serving}
 use Rattle.aud_meaning.specs.declared.state.Status.{Status}
@@ -16,7 +15,7 @@ use Rattle.aud_code.specs.Places.{Spot}
 use Rattle.aud_code.specs.Flat.{Flat}
 use Rattle.aud_over.specs.Over.{is_call_over}
 use Rattle.aud_framed.specs.Waiting.{AllFramed, TaskFramed}
-use Rattle.aud_framed.specs.Calls.{AreApart, CallerWaits, CallsOn, RequeueFits, Serves, ServesIn, Waits, WithinEntry, calls_in, objects_in, with_restarted, with_served}
+use Rattle.aud_framed.specs.Calls.{AgainFits, AreApart, CallerWaits, CallsOn, IsPast, Serves, ServesIn, Waits, WithinEntry, calls_in, objects_in, with_restarted, with_served}
 use Rattle.aud_framed.specs.Framed.{IsFramed}
 
 -- Tasks by their numbers.
@@ -55,7 +54,7 @@ module _ (plan : Plan) where
     objects = s.objects;
     serving = s.serving;
     again = s.again;
-    restart = λ r e. let x = s.restart r e in record { served = x.served; form = x.form; entry = x.entry; outside = x.outside };
+    restart = λ r e. let x = s.restart r e in record { served = x.served; form = x.form; entry = x.entry; outside = x.outside; apart = x.apart };
     withdraw = s.withdraw;
   }
 
@@ -66,7 +65,7 @@ module _ (plan : Plan) where
     objects = s.objects;
     serving = s.serving;
     again = s.again;
-    restart = λ r e. let x = s.restart r e in record { served = x.served; form = x.form; entry = x.entry; outside = x.outside };
+    restart = λ r e. let x = s.restart r e in record { served = x.served; form = x.form; entry = x.entry; outside = x.outside; apart = x.apart };
     withdraw = s.withdraw;
   }
 
@@ -192,7 +191,7 @@ may_serve : (own new : Own) (P : Type 0) → side new ≡ side own → (own.stat
 may_serve own new P same (inl h) = inl (ap (λ (k : Side). k.status) same ∙ h)
 may_serve own new P same (inr h) = inr (ap (λ (k : Side). k.status) same ∙ h.0, h.1)
 
-pub follows : (plan : Plan) (c : All Spot) (n : ℕ) (own new : Own) → side new ≡ side own → ((r : Again) → new.again ≡ Some r → RequeueFits plan c r new.opened) → Likens plan c n own.opened new.opened → Follows plan c n own new
+pub follows : (plan : Plan) (c : All Spot) (n : ℕ) (own new : Own) → side new ≡ side own → ((r : Again) → new.again ≡ Some r → AgainFits plan c r new) → Likens plan c n own.opened new.opened → Follows plan c n own new
 follows plan c n own new same again k = record {
   live = λ h. subst (λ (x : Side). is_over x.status ≡ false) same h;
   waits = λ id live mine h. (ap (λ (x : Side). x.call) same ∙ h.0, waits_on (call_of id c).owner own new same (k.within (call_of id c).owner) h.1);
@@ -208,10 +207,10 @@ follows plan c n own new same again k = record {
     again = again;
     restart = λ r e.
         let x = s.restart r (ap (λ (y : Side). y.restart) (sym same) ∙ e) in
-        record { served = x.served; form = x.form; entry = x.entry; outside = k.objects ∙ x.outside };
+        record { served = x.served; form = x.form; entry = x.entry; outside = k.objects ∙ x.outside; apart = (ap (λ (y : Side). y.serving) same ∙ x.apart.0, λ q. x.apart.1 (ap (λ (y : Side). y.status) (sym same) ∙ q)) };
     withdraw = λ o e.
         let h = s.withdraw o (ap (λ (y : Side). y.withdraw) (sym same) ∙ e) in
-        (waits_on (owner.Object o) own new same (k.within (owner.Object o)) h.0, h.1);
+        ((h.0.0, waits_on h.0.0 own new same (k.within h.0.0) h.0.1), (h.1.0, (subst (λ (x : Side). IsPast plan c x.call) (sym same) h.1.1.0, h.1.1.1)));
   };
   abnormal = λ h. subst (λ (x : Side). x.abnormal ≡ true) same h;
 }

@@ -43,7 +43,7 @@ rise_less m k [] h r = tt
 rise_less m k (n ∷ ns) h r = let a = r.0 in let b : m ≤ n = omega (arith, h, a) in (b, r.1)
 
 module _ {A : Type 0} where
-  abbrev FoundFrom : ℕ → List A → (ℕ → A) → Type 0
+  abbrev pub FoundFrom : ℕ → List A → (ℕ → A) → Type 0
   FoundFrom m [] look = Unit {0}
   FoundFrom m (x ∷ xs) look = (look m ≡ x) × FoundFrom (suc m) xs look
 
@@ -63,7 +63,7 @@ module _ {A : Type 0} where
   EachPasses p look [] = Unit {0}
   EachPasses p look (n ∷ ns) = (p (look n) ≡ true) × EachPasses p look ns
 
-  passes_from : (p : A → Bool) (m : ℕ) (xs : List A) (look : ℕ → A) → FoundFrom m xs look → EachPasses p look (numbers p m xs)
+  pub passes_from : (p : A → Bool) (m : ℕ) (xs : List A) (look : ℕ → A) → FoundFrom m xs look → EachPasses p look (numbers p m xs)
   passes_from p m [] look h = tt
   passes_from p m (x ∷ xs) look h = by (p x) refl (passes_from p (suc m) xs look h.1)
     where
@@ -71,13 +71,13 @@ module _ {A : Type 0} where
       by true e r = (ap p h.0 ∙ e, r)
       by false e r = r
 
-calls_found : (cs : List Call) → FoundFrom 0 cs (λ i. call_at i cs)
+pub calls_found : (cs : List Call) → FoundFrom 0 cs (λ i. call_at i cs)
 calls_found [] = tt
 calls_found (a ∷ more) = (refl, found_on 0 more (λ i. call_at i (a ∷ more)) (calls_found more))
 
 -- A call that is queued on a task's entry.
 
-is_it_queued : (s : CallState) → is_queued s ≡ true → s ≡ Queued
+pub is_it_queued : (s : CallState) → is_queued s ≡ true → s ≡ Queued
 is_it_queued Queued h = refl
 is_it_queued Selected h = absurd (false≢true h)
 is_it_queued Done h = absurd (false≢true h)
@@ -114,7 +114,7 @@ rest_waits o own r (inl h) = subst (λ s. Rests s) h r
 rest_waits o own r (inr (inl h, w)) = subst (λ s. Rests s) h r
 rest_waits o own r (inr (inr h, w)) = subst (λ s. Rests s) h r
 
-other_task : (n m : ℕ) (f : TaskAt Spot → TaskAt Spot) (ts : List (TaskAt Spot)) → (n ≡ m → ⊥) → slice_get (changed n f ts) m ≡ slice_get ts m
+pub other_task : (n m : ℕ) (f : TaskAt Spot → TaskAt Spot) (ts : List (TaskAt Spot)) → (n ≡ m → ⊥) → slice_get (changed n f ts) m ≡ slice_get ts m
 other_task n m f [] differs = refl
 other_task zero zero f (t ∷ ts) differs = absurd (differs refl)
 other_task zero (suc m) f (t ∷ ts) differs = refl

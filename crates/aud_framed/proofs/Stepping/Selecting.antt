@@ -10,7 +10,7 @@ use Rattle.aud_code.specs.Flat.{Flat}
 use Rattle.aud_over.specs.Over.{is_call_over}
 use Rattle.aud_framed.specs.Calls.{CallerWaits, IsEntryOf, Waits}
 use Rattle.aud_framed.specs.Framed.{IsFramed}
-use Rattle.aud_framed.proofs.Stepping.Calls.{others_same, queued_live, served_by, serves_calls, unserved_queued}
+use Rattle.aud_framed.proofs.Stepping.Calls.{counted, others_same, queued_live, served_by, serves_calls, unserved_queued}
 
 -- what else is said of a call stays
 pub field_same : {X : Type 0} (g : Call → X) (id i : ℕ) (f : Call → Call) (calls : List Call) → ((a : Call) → g (f a) ≡ g a) → g (call_at i (changed id f calls)) ≡ g (call_at i calls)
@@ -20,7 +20,7 @@ field_same g zero (suc i) f (a ∷ more) e = refl
 field_same g (suc id) zero f (a ∷ more) e = refl
 field_same g (suc id) (suc i) f (a ∷ more) e = field_same g id i f more e
 
-live_before : (id i : ℕ) (f : Call → Call) (calls : List Call) → is_call_over (call_at id calls).state ≡ false → is_call_over (call_at i (changed id f calls)).state ≡ false → is_call_over (call_at i calls).state ≡ false
+pub live_before : (id i : ℕ) (f : Call → Call) (calls : List Call) → is_call_over (call_at id calls).state ≡ false → is_call_over (call_at i (changed id f calls)).state ≡ false → is_call_over (call_at i calls).state ≡ false
 live_before id i f [] was h = h
 live_before zero zero f (a ∷ more) was h = was
 live_before zero (suc i) f (a ∷ more) was h = h
@@ -47,7 +47,7 @@ selected_framed plan code seen id c queued w = record {
   stays = λ i e ill.
       field_same (λ (a : Call). a.stays) id i f c.shared.calls (λ a. refl) ∙ w.stays i (queued_before id i c.shared.calls e) (ap (λ m. (own_of m c).abnormal) (sym (caller_same i)) ∙ ill);
   serves = λ n live.
-      serves_calls plan c new n (own_of n c) (λ i alive. (before i alive, owner_same i, caller_same i))
+      serves_calls plan c new n (own_of n c) (counted id f c.shared.calls) (λ i alive. (before i alive, owner_same i, caller_same i))
       (others_same id f c (served_by (own_of n c)) (unserved_queued plan c n id (own_of n c) queued (w.serves n live))) (w.serves n live);
   alone = w.alone;
 }

@@ -53,7 +53,7 @@ closable_same master n f c e =
     blocks : Dependent → Bool
     blocks d = depends master (record nobody { status = d.status; masters = d.masters }) && not (may_terminate (record nobody { status = d.status; waits = d.waits; abnormal = d.abnormal }))
 
-spots_at : (code : Flat) (n : ℕ) (f : TaskAt Spot → TaskAt Spot) (ts : List (TaskAt Spot)) → ((t : TaskAt Spot) → slice_get ts n ≡ Some t → IsSpot code.lines t.control → IsSpot code.lines (f t).control) → AreSpots code.lines ts → AreSpots code.lines (changed n f ts)
+pub spots_at : (code : Flat) (n : ℕ) (f : TaskAt Spot → TaskAt Spot) (ts : List (TaskAt Spot)) → ((t : TaskAt Spot) → slice_get ts n ≡ Some t → IsSpot code.lines t.control → IsSpot code.lines (f t).control) → AreSpots code.lines ts → AreSpots code.lines (changed n f ts)
 spots_at code n f [] g h = tt
 spots_at code zero f (t ∷ ts) g h = (g t refl h.0, h.1)
 spots_at code (suc n) f (t ∷ ts) g h = (h.0, spots_at code n f ts g h.1)
