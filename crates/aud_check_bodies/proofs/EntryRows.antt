@@ -108,7 +108,7 @@ accept_row : typed (with_accept (accept_e (doing (null (at 5 45))))) ≡ tree.pr
       ∷ [];
   tasks = record { unit = 1; entries = 0 ∷ 1 ∷ [] } ∷ [];
   objects = [];
-  entries = tree.task_entry (codes "E") ∷ tree.task_entry (codes "F") ∷ [];
+  entries = tree.task_entry (codes "E") 2 ∷ tree.task_entry (codes "F") 0 ∷ [];
   regions = (hidden_one (codes "T") ∷ []) ∷ (hidden_one [] ∷ []) ∷ (record { name = codes "N"; shown = tree.as_whole } ∷ record { name = codes "V"; shown = tree.as_truth } ∷ []) ∷ [];
   exceptions = [];
 })

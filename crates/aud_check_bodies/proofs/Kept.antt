@@ -25,10 +25,10 @@ unit_past xs k u h = set_past (map plain_unit xs) k u (omega (arith, h, length-m
 
 -- An entry whose barrier is put in its place.
 
-entry_barred : (x : entry.Entry) (b : typed.BooleanExpression) → plain_entry (record x { body = Some (record { unit = (entry_with [] x.body).unit; barrier = b }) }) ≡ record (plain_entry x) { barrier = plain_boolean b }
+entry_barred : (x : entry.Entry) (b : typed.BooleanExpression) → plain_entry (record x { body = Some (record { unit = (entry_with [] 0 x.body).unit; barrier = b }) }) ≡ record (plain_entry x) { barrier = plain_boolean b }
 entry_barred x b = by x.body
   where
-    by : (body : Option entry_body.EntryBody) → entry_with x.name (Some (record { unit = (entry_with [] body).unit; barrier = b })) ≡ record (entry_with x.name body) { barrier = plain_boolean b }
+    by : (body : Option entry_body.EntryBody) → entry_with x.name x.formals (Some (record { unit = (entry_with [] 0 body).unit; barrier = b })) ≡ record (entry_with x.name x.formals body) { barrier = plain_boolean b }
     by None = refl
     by (Some y) = refl
 
@@ -41,10 +41,10 @@ entry_set : (xs : List entry.Entry) (k : ℕ) (x : entry.Entry) → map plain_en
 entry_set xs k x = map-set plain_entry xs k x
 
 pub entry_put : (xs : List entry.Entry) (k : ℕ) (x : entry.Entry) (b : typed.BooleanExpression) → k < length xs → x ≡ slice_index_or xs k x
-    → map plain_entry (slice_set xs k (record x { body = Some (record { unit = (entry_with [] x.body).unit; barrier = b }) })) ≡ slice_set (map plain_entry xs) k (record (slice_index_or (map plain_entry xs) k (tree.task_entry [])) { barrier = plain_boolean b })
+    → map plain_entry (slice_set xs k (record x { body = Some (record { unit = (entry_with [] 0 x.body).unit; barrier = b }) })) ≡ slice_set (map plain_entry xs) k (record (slice_index_or (map plain_entry xs) k (tree.task_entry [] 0)) { barrier = plain_boolean b })
 entry_put xs k x b lt h =
-    entry_set xs k (record x { body = Some (record { unit = (entry_with [] x.body).unit; barrier = b }) })
-    ∙ ap (slice_set (map plain_entry xs) k) (entry_barred x b ∙ ap (λ (e : tree.EntryBody). record e { barrier = plain_boolean b }) (sym (entry_at_number xs k x (tree.task_entry []) lt h)))
+    entry_set xs k (record x { body = Some (record { unit = (entry_with [] 0 x.body).unit; barrier = b }) })
+    ∙ ap (slice_set (map plain_entry xs) k) (entry_barred x b ∙ ap (λ (e : tree.EntryBody). record e { barrier = plain_boolean b }) (sym (entry_at_number xs k x (tree.task_entry [] 0) lt h)))
 
 pub entry_past : (xs : List entry.Entry) (k : ℕ) (y : tree.EntryBody) → length xs ≤ k → slice_set (map plain_entry xs) k y ≡ map plain_entry xs
 entry_past xs k y h = set_past (map plain_entry xs) k y (omega (arith, h, length-map xs plain_entry))

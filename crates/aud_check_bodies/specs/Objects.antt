@@ -220,7 +220,7 @@ abbrev pub object_of_parts : ObjectDeclared → Pos → Ident → ℕ → Place 
 object_of_parts x at i number place = fine (record {
   place = in_region (with_object_parts x.around.parts (with_object i number (innermost place))) place;
   elaborations = tree.declare_object at number x.values ∷ [];
-}) (object_kept i.name x.entries x.tables)
+}) (object_kept i.name x.own.level x.entries x.tables)
 
 abbrev pub checked_protected : Pos → Ident → List Operation → Option (List PrivateItem) → Option Ident → Place → Tables → Outcome Declared
 checked_protected at i operations hidden last place t =
@@ -255,7 +255,7 @@ body_object None t = next_object t
 body_object (Some o) t = o.object
 
 abbrev pub object_tables : Option AwaitedObject → Ident → Tables → Tables
-object_tables None i t = object_kept i.name [] t
+object_tables None i t = object_kept i.name 0 [] t
 object_tables (Some o) i t = t
 
 -- the bodies of its operations leave those that have none

@@ -85,34 +85,34 @@ abbrev pub next_entry : Tables → ℕ
 next_entry t = length t.entries
 
 abbrev pub entry_kept : List ℕ → List NamedParameter → Tables → Tables
-entry_kept name profile t = record t { entries = t.entries ++ tree.task_entry name ∷ []; entry_profiles = t.entry_profiles ++ profile ∷ [] }
+entry_kept name profile t = record t { entries = t.entries ++ tree.task_entry name (length profile) ∷ []; entry_profiles = t.entry_profiles ++ profile ∷ [] }
 
 -- A protected one has the next unit besides, which nothing calls by its number, and its barrier is there once its body is checked.
 
-abbrev pub protected_entry : List ℕ → ℕ → tree.EntryBody
-protected_entry name unit = record (tree.task_entry name) { unit = unit }
+abbrev pub protected_entry : List ℕ → (formals unit : ℕ) → tree.EntryBody
+protected_entry name formals unit = record (tree.task_entry name formals) { unit = unit }
 
 abbrev pub protected_entry_kept : List ℕ → List NamedParameter → Tables → Tables
 protected_entry_kept name profile t = record t {
   profiles = t.profiles ++ [] ∷ [];
   units = t.units ++ no_body ∷ [];
-  entries = t.entries ++ protected_entry name (next_unit t) ∷ [];
+  entries = t.entries ++ protected_entry name (length profile) (next_unit t) ∷ [];
   entry_profiles = t.entry_profiles ++ profile ∷ [];
 }
 
 abbrev pub entry_at : ℕ → Tables → tree.EntryBody
-entry_at number t = slice_index_or t.entries number (tree.task_entry [])
+entry_at number t = slice_index_or t.entries number (tree.task_entry [] 0)
 
 abbrev pub with_barrier : ℕ → tree.BooleanExpression → Tables → Tables
 with_barrier number barrier t = record t { entries = slice_set t.entries number (record (entry_at number t) { barrier = barrier }) }
 
--- Protected objects: one that is declared has the next number.
+-- Protected objects: one that is declared has the next number. So many frames are open around its own.
 
 abbrev pub next_object : Tables → ℕ
 next_object t = length t.objects
 
-abbrev pub object_kept : List ℕ → List ℕ → Tables → Tables
-object_kept name entries t = record t { objects = t.objects ++ (record { name = name; entries = entries }) ∷ [] }
+abbrev pub object_kept : List ℕ → (level : ℕ) → List ℕ → Tables → Tables
+object_kept name level entries t = record t { objects = t.objects ++ (record { name = name; level = level; entries = entries }) ∷ [] }
 
 -- the formals of a unit
 abbrev pub profile_of : ℕ → Tables → List NamedParameter

@@ -9,7 +9,8 @@ ghost use Rattle.aud_check_bodies.specs.Programs.{faults, typed};
 /// (RM 3.3.1, 8.3), also in handlers, each exception that is raised or chosen by a handler is there, and each
 /// procedure that is called, which has as many formals as the call has arguments. Tasks are created of types that are
 /// there, whose body sees frames that are open where the tasks are activated (RM 9.2). Each entry that is accepted,
-/// called or counted is there, each table, and each loop that an exit leaves.
+/// called or counted is there, with as many formals as its accepts and body have and its calls have arguments, each
+/// table, and each loop that an exit leaves. A call of an object names a cell of the innermost frame around the object's.
 pub fn scoped()
     ensures { (unit : plain.Unit) → faults unit ≡ [] → IsScoped (typed unit) }
 {}

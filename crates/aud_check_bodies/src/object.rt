@@ -684,12 +684,13 @@ pub fn declare_protected(
         values,
         entries,
     } = parts;
+    let level = own.level;
     drop(own);
     let elaborated = elaborate_object(node.at, number, values, &mut part.elaborations);
     let (entries, ()) = both(entries, elaborated)?;
     let name = node.name.name.try_clone(alloc);
     let (entries, name) = both(entries, name)?;
-    tables.keep_object(name, entries)
+    tables.keep_object(name, level, entries)
 }
 
 /// Notes the objects that wait for a body still at the end of a declarative part (RM 3.11.1).
@@ -736,7 +737,7 @@ pub fn body_number(
             let number = tables.next_object();
             let alloc = region.alloc;
             let name = ident.name.try_clone(alloc)?;
-            tables.keep_object(name, Vec::new(alloc))?;
+            tables.keep_object(name, 0, Vec::new(alloc))?;
             Ok(number)
         }
     }

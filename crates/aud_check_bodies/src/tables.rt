@@ -155,8 +155,14 @@ impl Tables {
         ensures { OnOk result (plain_tables self.new
             ≡ entry_kept name profile.items (plain_tables self.old)) }
     {
+        let formals = profile.len();
         add_last(&mut self.entry_profiles, profile)?;
-        add_last(&mut self.entries, Entry { name, body: None })
+        let entry = Entry {
+            name,
+            formals,
+            body: None,
+        };
+        add_last(&mut self.entries, entry)
     }
 
     /// Adds a protected entry of this name and with these formals, and keeps the place of its body, which has the next unit.
@@ -170,11 +176,17 @@ impl Tables {
             ≡ protected_entry_kept name profile.items (plain_tables self.old)) }
     {
         let unit = self.units.len();
+        let formals = profile.len();
         add_last(&mut self.entry_profiles, profile)?;
         self.keep_unit(alloc, Vec::new(alloc))?;
         let barrier = BooleanExpression::Truth(true);
         let body = Some(EntryBody { unit, barrier });
-        add_last(&mut self.entries, Entry { name, body })
+        let entry = Entry {
+            name,
+            formals,
+            body,
+        };
+        add_last(&mut self.entries, entry)
     }
 
     /// Puts the barrier of an entry where its place was kept (RM 9.5.2(7)).
@@ -200,12 +212,17 @@ impl Tables {
         self.objects.len()
     }
 
-    /// Adds a protected object of this name with these entries.
-    pub fn keep_object(&mut self, name: Name, entries: Vec<usize>) -> Made<()>
+    /// Adds a protected object of this name and level with these entries.
+    pub fn keep_object(&mut self, name: Name, level: usize, entries: Vec<usize>) -> Made<()>
         ensures { OnOk result (plain_tables self.new
-            ≡ object_kept name entries.items (plain_tables self.old)) }
+            ≡ object_kept name level entries.items (plain_tables self.old)) }
     {
-        add_last(&mut self.objects, ProtectedObject { name, entries })
+        let object = ProtectedObject {
+            name,
+            level,
+            entries,
+        };
+        add_last(&mut self.objects, object)
     }
 
     /// The formals of a unit.
@@ -231,7 +248,7 @@ impl Tables {
 
 // The unit of an entry's body, if it has one.
 fn body_unit(body: &Option<EntryBody>) -> usize
-    ensures { result ≡ (entry_with [] body.now).unit }
+    ensures { result ≡ (entry_with [] 0 body.now).unit }
 {
     match body {
         None => 0,

@@ -3,6 +3,7 @@
 -- own components.
 use Rattle.std.specs.Prelude.{◌≡◌, ◌⊎◌, ◌<◌, ◌≤◌, ℕ, zero, suc, ◌+◌, List, [], ◌∷◌, length, Bool, true, false, Option, Some, None, slice_get, slice_index_or}
 use Rattle.aud_typed.specs.declared.program.ArrayAt.{ArrayAt}
+use Rattle.aud_typed.specs.declared.program.Variable.{Variable}
 use Rattle.aud_meaning.specs.declared.state.Construct.TheVariants as construct
 use Rattle.aud_meaning.specs.declared.state.OpenAccept.{OpenAccept}
 use Rattle.aud_code.specs.Places.{Way, Guard}
@@ -99,9 +100,17 @@ module _ (seen : List ℕ) where
   abbrev pub BodySees : ℕ → ℕ → Type 0
   BodySees n place = IsWritten (slice_get seen place) (λ m. (1 ≤ m) × (m ≤ suc n))
 
--- the barrier of an entry that is called where n are open: it sees some of them, and that of its object
-abbrev pub BarrierSees : List ℕ → ℕ → ℕ → Type 0
-BarrierSees barriers n entry = IsWritten (slice_get barriers entry) (λ m. m ≤ suc n)
+-- A variable that has an object's number lies in the innermost frame around the object's own. The body of an operation sees the frames up to
+-- that one, that of the object, and its own; the barrier of an entry is asked without its own.
+abbrev pub OperationSees : List ℕ → Variable → ℕ → Type 0
+OperationSees seen v place = IsWritten (slice_get seen place) (λ m. m ≡ v.level + 3)
+
+abbrev pub BarrierSees : List ℕ → Variable → ℕ → Type 0
+BarrierSees barriers v entry = IsWritten (slice_get barriers entry) (λ m. m ≡ v.level + 2)
+
+-- or else, in the object's body, it is the first of the object's frame
+abbrev pub BarrierSeesAgain : List ℕ → Variable → ℕ → Type 0
+BarrierSeesAgain barriers v entry = IsWritten (slice_get barriers entry) (λ m. (m ≡ v.level + 2) ⊎ ((v.index ≡ 0) × (m ≡ v.level + 1)))
 
 -- the body of each task type and how many frames each barrier sees, by their numbers, of which code itself says nothing
 module _ (code : Flat) (tasks barriers seen : List ℕ) where
@@ -109,10 +118,9 @@ module _ (code : Flat) (tasks barriers seen : List ℕ) where
   abbrev pub EndingSees : Ending → ℕ → Type 0
   EndingSees (DeclareTasks ts) n = BodySees seen n (start_at code (slice_index_or tasks ts.task_type 0))
   EndingSees (Proc unit) n = BodySees seen n (start_at code unit)
-  -- an operation's body sees some of them, that of its object, and its own
-  EndingSees (Operation v unit) n = (v.level < n) × BodySees seen (suc n) (start_at code unit)
-  EndingSees (CallObject v entry form) n = (v.level < n) × BarrierSees barriers n entry
-  EndingSees (RequeueObject v entry formals abort) n = (v.level < n) × BarrierSees barriers n entry
+  EndingSees (Operation v unit) n = (v.level < n) × OperationSees seen v (start_at code unit)
+  EndingSees (CallObject v entry form) n = (v.level < n) × BarrierSees barriers v entry
+  EndingSees (RequeueObject v entry formals abort) n = (v.level < n) × BarrierSeesAgain barriers v entry
   EndingSees e n = Unit {0}
 
   -- behind the end of a construct its frame is left; what is around it stands within the step that opened it

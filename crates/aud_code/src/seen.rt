@@ -5,7 +5,7 @@ ghost use Rattle.std.specs.Prelude.{◌≡◌, ◌↔◌, ◌⊎◌, ◌+◌, �
 ghost use Rattle.aud_code.specs.Tabled.{counts};
 ghost use Rattle.aud_code.specs.Flat.{instructions_from, start_at};
 ghost use Rattle.aud_code.specs.Frames.{found, IsWritten, OpensWith};
-ghost use Rattle.aud_code.specs.Seen.{inside, AllOpen, BarrierSees, BarriersSee, BehindSees, BodiesSee, BodySees, DoingSees, EachSame, EitherSee, EndingSees, Fewer};
+ghost use Rattle.aud_code.specs.Seen.{inside, AllOpen, BarrierSees, BarrierSeesAgain, BarriersSee, BehindSees, BodiesSee, BodySees, DoingSees, EachSame, EitherSee, EndingSees, Fewer, OperationSees};
 ghost use Rattle.aud_code.specs.Seen.{GuardsSee, IsSeen, LastSees, LineSees, NamesOpen, OpenedSees, StepSees};
 ghost use Rattle.aud_code.specs.Seen.{OutSees, PlaceSees, WaySees, WithinSees};
 ghost use Rattle.aud_code.specs.Seen.{open_with, with_own};
@@ -16,6 +16,7 @@ use crate::frames::{body_offered, found, opener};
 use crate::instruction::Instruction;
 use crate::line::{Among, Barrier, Code, EndLine, Ending, Guard, Last, Line, Offer};
 use aud_meaning::state::{Construct, OpenAccept};
+use aud_typed::program::Variable;
 
 /// Whether each line names variables of frames that are open alone, by the table of frames, and leads to where those
 /// are open that are written there.
@@ -257,11 +258,11 @@ fn among_sees(code: &Code, among: &Among, frames: usize) -> bool
             ..
         } => {
             object.level < frames
-                && barrier_sees(&code.barriers, frames, *entry)
+                && barrier_sees(&code.barriers, *object, *entry)
                 && is_fewer(seen, 0, frames, *otherwise)
         }
         Among::Operation { object, unit } => {
-            object.level < frames && operation_sees(seen, frames, start(code, *unit))
+            object.level < frames && operation_sees(seen, *object, start(code, *unit))
         }
         Among::Accept { region, body, .. } => doing_sees(seen, frames, *region, *body),
         Among::Select { own, offers, .. } => {
@@ -270,7 +271,7 @@ fn among_sees(code: &Code, among: &Among, frames: usize) -> bool
         Among::RequeueTask { way, .. } => is_fewer(seen, way.loops, frames, way.to),
         Among::RequeueObject { object, again, way } => {
             object.level < frames
-                && barrier_sees(&code.barriers, frames, again.entry)
+                && barrier_sees_again(&code.barriers, *object, again.entry)
                 && is_fewer(seen, way.loops, frames, way.to)
         }
         Among::DeclareObject(_)
@@ -281,14 +282,38 @@ fn among_sees(code: &Code, among: &Among, frames: usize) -> bool
     }
 }
 
-// The barrier of an entry that is called where so many frames are open: it sees some of them, and that of its object.
-fn barrier_sees(barriers: &[Barrier], frames: usize, entry: usize) -> bool
-    ensures { IsTrue result ↔ BarrierSees (frames_in barriers.now) frames entry }
+// The barrier of an entry that is called, whose object's number is in a variable of the innermost frame around the object's.
+fn barrier_sees(barriers: &[Barrier], object: Variable, entry: usize) -> bool
+    ensures { IsTrue result ↔ BarrierSees (frames_in barriers.now) object entry }
 {
     match barriers.get(entry) {
-        Some(barrier) => barrier.frames == 0 || barrier.frames - 1 <= frames,
+        Some(barrier) => is_more(object.level, 2, barrier.frames),
         None => false,
     }
+}
+
+// The same where a call is made again, also in the object's body.
+fn barrier_sees_again(barriers: &[Barrier], object: Variable, entry: usize) -> bool
+    ensures { IsTrue result ↔ BarrierSeesAgain (frames_in barriers.now) object entry }
+{
+    match barriers.get(entry) {
+        Some(barrier) => is_named(object, barrier.frames),
+        None => false,
+    }
+}
+
+fn is_named(object: Variable, frames: usize) -> bool
+    ensures { IsTrue result ↔
+        ((frames ≡ object.level + 2) ⊎ ((object.index ≡ 0) × (frames ≡ object.level + 1))) }
+{
+    is_more(object.level, 2, frames) || object.index == 0 && is_more(object.level, 1, frames)
+}
+
+// Whether these are so many more frames than a level.
+fn is_more(level: usize, more: usize, frames: usize) -> bool
+    ensures { IsTrue result ↔ (frames ≡ level + more) }
+{
+    more <= frames && frames - more == level
 }
 
 // Where alternatives lead, and to what their accepts do.
@@ -414,12 +439,12 @@ fn body_sees(seen: &[usize], frames: usize, place: usize) -> bool
     }
 }
 
-// The same of an operation's body, which sees the frame of its object besides.
-fn operation_sees(seen: &[usize], frames: usize, place: usize) -> bool
-    ensures { IsTrue result ↔ BodySees seen.now (suc frames) place }
+// The body of an operation, which sees besides the frames around its object's that of the object, and its own.
+fn operation_sees(seen: &[usize], object: Variable, place: usize) -> bool
+    ensures { IsTrue result ↔ OperationSees seen.now object place }
 {
     match seen.get(place) {
-        Some(there) => 1 <= *there && there.saturating_sub(2) <= frames,
+        Some(there) => is_more(object.level, 3, *there),
         None => false,
     }
 }

@@ -205,12 +205,12 @@ entries_missing (x ∷ ts) (suc n) past = entries_missing ts n (omega (arith, pa
 
 -- The declaration of an object in memory.
 
-pub object_found : (os : List ProtectedObject) (n : ℕ) (o : ProtectedObject) → n < length os → o ≡ get_or os n o → plain_object o ≡ slice_index_or (map plain_object os) n (record { name = []; entries = [] })
+pub object_found : (os : List ProtectedObject) (n : ℕ) (o : ProtectedObject) → n < length os → o ≡ get_or os n o → plain_object o ≡ slice_index_or (map plain_object os) n (record { name = []; level = 0; entries = [] })
 object_found [] n o within at = absurd (omega (arith, within))
 object_found (x ∷ os) zero o within at = ap plain_object at
 object_found (x ∷ os) (suc n) o within at = object_found os n o (omega (arith, within)) at
 
-pub object_missing : (os : List ProtectedObject) (n : ℕ) → length os ≤ n → slice_index_or (map plain_object os) n (record { name = []; entries = [] }) ≡ record { name = []; entries = [] }
+pub object_missing : (os : List ProtectedObject) (n : ℕ) → length os ≤ n → slice_index_or (map plain_object os) n (record { name = []; level = 0; entries = [] }) ≡ record { name = []; level = 0; entries = [] }
 object_missing [] n past = refl
 object_missing (x ∷ os) zero past = absurd (omega (arith, past))
 object_missing (x ∷ os) (suc n) past = object_missing os n (omega (arith, past))
@@ -231,16 +231,16 @@ grouped o a b c d e f g h =
 abbrev entry_plans : List Entry → List EntryPlan
 entry_plans es = map plan_of_entry (map plain_entry es)
 
-named_as : (name : List ℕ) (b : Option EntryBody) → name ≡ (entry_with name b).name
-named_as name None = refl
-named_as name (Some b) = refl
+named_as : (name : List ℕ) (formals : ℕ) (b : Option EntryBody) → name ≡ (entry_with name formals b).name
+named_as name formals None = refl
+named_as name formals (Some b) = refl
 
-pub name_found : (es : List Entry) (n : ℕ) (e : Entry) → n < length es → e ≡ get_or es n e → e.name ≡ (slice_index_or (entry_plans es) n (record { name = []; unit = 0 })).name
+pub name_found : (es : List Entry) (n : ℕ) (e : Entry) → n < length es → e ≡ get_or es n e → e.name ≡ (slice_index_or (entry_plans es) n (record { name = []; formals = 0; unit = 0 })).name
 name_found [] n e within at = absurd (omega (arith, within))
-name_found (x ∷ es) zero e within at = ap (λ (y : Entry). y.name) at ∙ named_as x.name x.body
+name_found (x ∷ es) zero e within at = ap (λ (y : Entry). y.name) at ∙ named_as x.name x.formals x.body
 name_found (x ∷ es) (suc n) e within at = name_found es n e (omega (arith, within)) at
 
-pub name_missing : (es : List Entry) (n : ℕ) → length es ≤ n → (slice_index_or (entry_plans es) n (record { name = []; unit = 0 })).name ≡ []
+pub name_missing : (es : List Entry) (n : ℕ) → length es ≤ n → (slice_index_or (entry_plans es) n (record { name = []; formals = 0; unit = 0 })).name ≡ []
 name_missing [] n past = refl
 name_missing (x ∷ es) zero past = absurd (omega (arith, past))
 name_missing (x ∷ es) (suc n) past = name_missing es n (omega (arith, past))

@@ -75,14 +75,14 @@ barrier_decided e l lines table takes are tabled =
 
 -- All of them, so far and those that are left.
 
-barrier_is : (name : List ℕ) (b : Option EntryBody) → (entry_with name b).barrier ≡ barrier_in b
-barrier_is name None = refl
-barrier_is name (Some b) = refl
+barrier_is : (name : List ℕ) (formals : ℕ) (b : Option EntryBody) → (entry_with name formals b).barrier ≡ barrier_in b
+barrier_is name formals None = refl
+barrier_is name formals (Some b) = refl
 
 pub next_barrier : (xs : List Entry) (i : ℕ) (x : Entry) → i < length xs → x ≡ get_or xs i x → map condition_code (barriers_in (drop i xs)) ≡ condition_code (barrier_in x.body) ∷ map condition_code (barriers_in (drop (i + 1) xs))
 next_barrier xs i x h e =
     ap (λ ys. map condition_code (barriers_in ys)) (dropped xs i x h e)
-    ∙ ap (λ b. condition_code b ∷ map condition_code (barriers_in (drop (i + 1) xs))) (barrier_is x.name x.body)
+    ∙ ap (λ b. condition_code b ∷ map condition_code (barriers_in (drop (i + 1) xs))) (barrier_is x.name x.formals x.body)
 
 pub one_barrier : (xs : List Entry) (i : ℕ) (x : Entry) → i < length xs → x ≡ get_or xs i x → (now new : List Barrier) (b : Barrier) (whole : List (List Instruction)) → new ≡ now ++ b ∷ [] → plain_barrier b ≡ condition_code (barrier_in x.body) → map plain_barrier now ++ map condition_code (barriers_in (drop i xs)) ≡ whole → map plain_barrier new ++ map condition_code (barriers_in (drop (i + 1) xs)) ≡ whole
 one_barrier xs i x h e now new b whole added is left =

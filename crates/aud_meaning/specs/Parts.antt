@@ -336,10 +336,10 @@ abbrev pub task_plan : Plan → ℕ → TaskPlan
 task_plan plan n = slice_index_or plan.tasks n (record { unit = 0; entries = [] })
 
 abbrev pub object_plan : Plan → ℕ → ObjectPlan
-object_plan plan n = slice_index_or plan.objects n (record { name = []; entries = [] })
+object_plan plan n = slice_index_or plan.objects n (record { name = []; level = 0; entries = [] })
 
 abbrev pub entry_plan : Plan → ℕ → EntryPlan
-entry_plan plan n = slice_index_or plan.entries n (record { name = []; unit = 0 })
+entry_plan plan n = slice_index_or plan.entries n (record { name = []; formals = 0; unit = 0 })
 
 abbrev pub exception_of : Option Pending → Option Exception
 exception_of None = None

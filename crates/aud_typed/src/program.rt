@@ -779,29 +779,40 @@ impl Drop for TaskType {
     }
 }
 
-/// A declaration of a protected object: its name, and its entries, by their numbers (RM 9.4).
+/// A declaration of a protected object: its name, how many frames are open around its own, and its entries, by their numbers
+/// (RM 9.4). One more is open around the frame of each operation and entry body, the object's own.
 pub struct ProtectedObject {
     pub name: Name,
+    pub level: usize,
     pub entries: Vec<usize>,
 }
 
 impl Drop for ProtectedObject {
     fn drop(self) {
-        let ProtectedObject { name, entries } = self;
+        let ProtectedObject {
+            name,
+            level: _,
+            entries,
+        } = self;
         drop(name);
         drop(entries);
     }
 }
 
-/// An entry of a task, which has no body, or of a protected object (RM 9.5.2).
+/// An entry of a task, which has no body, or of a protected object, and how many formals it has (RM 9.5.2).
 pub struct Entry {
     pub name: Name,
+    pub formals: usize,
     pub body: Option<EntryBody>,
 }
 
 impl Drop for Entry {
     fn drop(self) {
-        let Entry { name, body } = self;
+        let Entry {
+            name,
+            formals: _,
+            body,
+        } = self;
         drop(name);
         drop(body);
     }

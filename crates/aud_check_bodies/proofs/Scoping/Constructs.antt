@@ -5,7 +5,7 @@ use Rattle.aud_syntax.specs.declared.tree.Ident.{Ident}
 use Rattle.aud_syntax.specs.Plain as plain
 use Rattle.aud_typed.specs.Tree as tree
 use Rattle.aud_typed.specs.Tree.{Plan}
-use Rattle.aud_typed.specs.Why.Scoped.{Scope, none_yet, Elaborated, Entry, all_formals, StatementScoped, PartScoped, HandlersScoped, DoingScoped}
+use Rattle.aud_typed.specs.Why.Scoped.{Scope, none_yet, Elaborated, Entry, all_formals, formals_of, StatementScoped, PartScoped, HandlersScoped, DoingScoped}
 use Rattle.aud_names.specs.declared.awaited.AwaitedPart.{AwaitedPart}
 use Rattle.aud_names.specs.Names as names
 use Rattle.aud_names.specs.Names.{Region, Place}
@@ -84,12 +84,12 @@ module _ (plan : Plan) (entries : List Entry) where
       Fits (seen plan entries t) scope n → InPlan plan t (s.checked_accept x around n t).tables → Ready entries t (in_accept x around n t scope) → (s.checked_accept x around n t).faults ≡ []
       → IsFine t (s.checked_accept x around n t).tables (AcceptScoped (seen plan entries t) scope (s.checked_accept x around n t).made)
 
-  -- in a region of formals, each with one cell
+  -- in a region of an entry's formals, each with one cell
   unfoldable pub DoingFine : plain.Doing → Ident → Region → Around → Place → Tables → Scope → Type 0
   DoingFine x i r around n t scope =
-      (k : ℕ) → RegionScoped (seen plan entries t) scope none_yet r → elaborated r ≡ all_formals k
+      (entry : ℕ) → RegionScoped (seen plan entries t) scope none_yet r → elaborated r ≡ all_formals (formals_of plan entry)
       → Fits (seen plan entries t) scope n → InPlan plan t (s.checked_doing x i r around n t).tables → Ready entries t (in_doing x r around n t scope) → (s.checked_doing x i r around n t).faults ≡ []
-      → IsFine t (s.checked_doing x i r around n t).tables (DoingScoped plan entries (s.checked_doing x i r around n t).made scope)
+      → IsFine t (s.checked_doing x i r around n t).tables (DoingScoped plan entries entry (s.checked_doing x i r around n t).made scope)
 
   unfoldable pub AlternativeFine : plain.Alternative → plain.MaybeExpression → Around → Place → Tables → Scope → Type 0
   AlternativeFine x guard around n t scope =

@@ -12,7 +12,7 @@ use Rattle.aud_typed.specs.declared.program.Subtype.{Subtype}
 use Rattle.aud_typed.specs.declared.program.Subtype.TheVariants.{Integer, Natural, Positive, Boolean}
 use Rattle.aud_typed.specs.declared.program.Exception.TheVariants as exception_of
 use Rattle.aud_typed.specs.Tree as tree
-use Rattle.aud_typed.specs.Why.Scoped.{Elaborated, Scope, none_yet, cells_at, in_innermost, declared_up_to, declared_with, scope_after, shown_cells, cells_of, all_of_table, all_formals, IsTaskEntry, StatementScoped}
+use Rattle.aud_typed.specs.Why.Scoped.{Elaborated, Scope, none_yet, cells_at, in_innermost, declared_up_to, declared_with, scope_after, shown_cells, cells_of, all_of_table, all_formals, object_level, StatementScoped}
 use Rattle.aud_fault.specs.declared.fault.Fault.{Fault}
 use Rattle.aud_names.specs.declared.names.NamedParameter.{NamedParameter}
 use Rattle.aud_names.specs.declared.names.Parameter.{Parameter}
@@ -35,7 +35,7 @@ use Rattle.aud_check_bodies.specs.Entries as entries
 use Rattle.aud_check_bodies.specs.Formals as f
 use Rattle.aud_check_bodies.specs.Regions as regions
 use Rattle.aud_check_bodies.specs.Tasks as tasks
-use Rattle.aud_check_bodies.proofs.Scoping.Names.{Known, when, IsCallable, IsTaskType, EntriesThere, PartsThere, MeaningScoped, VisibleScoped, SymbolsScoped, RegionsScoped, Fits, either, regions_more, regions_when, regions_scoped, regions_see, later, symbols_later, parts_later, regions_later}
+use Rattle.aud_check_bodies.proofs.Scoping.Names.{Known, when, IsCallable, IsTaskType, IsOfTask, EntriesThere, PartsThere, MeaningScoped, VisibleScoped, SymbolsScoped, RegionsScoped, Fits, either, regions_more, regions_when, regions_scoped, regions_see, later, symbols_later, entries_later, parts_later, regions_later}
 use Rattle.aud_check_bodies.proofs.Scoping.Elaborations.{Elaborates, AllCreated, none_created, one_created}
 use Rattle.aud_check_bodies.proofs.Scoping.Expressions.{initial_scoped}
 
@@ -141,31 +141,36 @@ pub not_declared : (b : Bool) (f : Fault) → rules.unless (not b) f ≡ [] → 
 not_declared true f h = cc
 not_declared false f h = refl
 
+-- the plan tells of an object at which level it is declared
+abbrev pub IsPlannedAt : Known → (level : ℕ) → Kind → Type 0
+IsPlannedAt known level (Protected number) = known.complete ≡ true → suc level ≡ object_level known.plan number
+IsPlannedAt known level _ = Unit {0}
+
 module _ (known : Known) (outer : Scope) where
-  new_scoped : (kind : Kind) (level index : ℕ) (e : Elaborated) → level ≡ length outer → index + arrays.cells_of kind ≤ e.cells → MeaningScoped known (outer ++ e ∷ []) (arrays.new_meaning kind level index)
-  new_scoped (Scalar o) level index e h more =
+  new_scoped : (kind : Kind) (level index : ℕ) (e : Elaborated) → level ≡ length outer → index + arrays.cells_of kind ≤ e.cells → IsPlannedAt known level kind → MeaningScoped known (outer ++ e ∷ []) (arrays.new_meaning kind level index)
+  new_scoped (Scalar o) level index e h more planned =
       let here : cells_at level (outer ++ e ∷ []) ≡ e.cells = ap (λ x. x.cells) (get_or_push outer e none_yet level (sym h)) in
       omega (arith, here, more)
-  new_scoped (Row a) level index e h more =
+  new_scoped (Row a) level index e h more planned =
       let here : cells_at level (outer ++ e ∷ []) ≡ e.cells = ap (λ x. x.cells) (get_or_push outer e none_yet level (sym h)) in
       omega (arith, here, more)
-  new_scoped (Task number) level index e h more =
+  new_scoped (Task number) level index e h more planned =
       let here : cells_at level (outer ++ e ∷ []) ≡ e.cells = ap (λ x. x.cells) (get_or_push outer e none_yet level (sym h)) in
       omega (arith, here, more)
-  new_scoped (TaskRow a) level index e h more =
+  new_scoped (TaskRow a) level index e h more planned =
       let here : cells_at level (outer ++ e ∷ []) ≡ e.cells = ap (λ x. x.cells) (get_or_push outer e none_yet level (sym h)) in
       omega (arith, here, more)
-  new_scoped (Protected number) level index e h more =
+  new_scoped (Protected number) level index e h more planned =
       let here : cells_at level (outer ++ e ∷ []) ≡ e.cells = ap (λ x. x.cells) (get_or_push outer e none_yet level (sym h)) in
-      omega (arith, here, more)
+      (omega (arith, here, more), λ f. planned)
 
 module _ (known : Known) (outer : Scope) (full : Elaborated) where
-  pub symbol_scoped : (name : List ℕ) (kind : Kind) (r : Region) → RegionScoped known outer full r → RegionScoped known outer full (d.with_symbol name kind r)
-  symbol_scoped name kind r h =
+  pub symbol_scoped : (name : List ℕ) (kind : Kind) (r : Region) → ((c : Bool) → IsPlannedAt (when c known) r.level kind) → RegionScoped known outer full r → RegionScoped known outer full (d.with_symbol name kind r)
+  symbol_scoped name kind r planned h =
       let s : Symbol = (name, arrays.new_meaning kind r.level r.cells) in
       record {
         level = h.level;
-        symbols = λ c e more enough. All-push (λ x. MeaningScoped (when c known) (outer ++ e ∷ []) x.1) r.symbols s (h.symbols c e (omega (arith, more)) enough) (new_scoped (when c known) outer kind r.level r.cells e h.level more);
+        symbols = λ c e more enough. All-push (λ x. MeaningScoped (when c known) (outer ++ e ∷ []) x.1) r.symbols s (h.symbols c e (omega (arith, more)) enough) (new_scoped (when c known) outer kind r.level r.cells e h.level more (planned c));
         named = omega (arith, names_shown r.symbols (s ∷ []), one_name name kind r.level r.cells, h.named);
         celled = omega (arith, cells_shown r.symbols (s ∷ []), its_cells name kind r.level r.cells, h.celled);
         entries = h.entries;
@@ -186,7 +191,7 @@ module _ (known : Known) (outer : Scope) (full : Elaborated) where
       let kind : Kind = d.scalar t is_constant in
       let faults = both_none _ _ q in
       let grown = fresh i kind r faults.0 in
-      let rest = objects_declared is t is_constant (d.with_symbol i.name kind r) (subst (λ z. d.twice_faults is kind z ≡ []) grown faults.1) (symbol_scoped i.name kind r h) in
+      let rest = objects_declared is t is_constant (d.with_symbol i.name kind r) (subst (λ z. d.twice_faults is kind z ≡ []) grown faults.1) (symbol_scoped i.name kind r (λ c. tt) h) in
       subst (λ z. RegionScoped known outer full (d.declared_names is kind z) × ((d.declared_names is kind z).names ≡ r.names + length (i ∷ is)) × ((d.declared_names is kind z).cells ≡ r.cells + length (i ∷ is))) (sym grown)
       (rest.0, omega (arith, rest.1), omega (arith, rest.2))
 
@@ -200,14 +205,14 @@ module _ (known : Known) (outer : Scope) (full : Elaborated) where
   abbrev AddsCells : (Ident → tree.Statement) → Kind → Type 0
   AddsCells elaborate kind = (i : Ident) (scope : Scope) → StatementScoped known.plan known.entries (elaborate i) scope × (scope_after (elaborate i) scope ≡ in_innermost (declared_with (arrays.cells_of kind)) scope)
 
-  each_declared : (elaborate : Ident → tree.Statement) (kind : Kind) → AddsCells elaborate kind → (is : List Ident) (r : Region) → d.twice_faults is kind r ≡ [] → RegionScoped known outer full r
+  each_declared : (elaborate : Ident → tree.Statement) (kind : Kind) → AddsCells elaborate kind → ((c : Bool) (level : ℕ) → IsPlannedAt (when c known) level kind) → (is : List Ident) (r : Region) → d.twice_faults is kind r ≡ [] → RegionScoped known outer full r
       → RegionScoped known outer full (d.declared_names is kind r) × Elaborates known (outer ++ elaborated r ∷ []) (map elaborate is) (outer ++ elaborated (d.declared_names is kind r) ∷ [])
-  each_declared elaborate kind each [] r q h = (h, refl)
-  each_declared elaborate kind each (i ∷ is) r q h =
+  each_declared elaborate kind each planned [] r q h = (h, refl)
+  each_declared elaborate kind each planned (i ∷ is) r q h =
       let faults = both_none _ _ q in
       let grown = fresh i kind r faults.0 in
       let new : Region = d.with_symbol i.name kind r in
-      let rest = each_declared elaborate kind each is new (subst (λ z. d.twice_faults is kind z ≡ []) grown faults.1) (symbol_scoped i.name kind r h) in
+      let rest = each_declared elaborate kind each planned is new (subst (λ z. d.twice_faults is kind z ≡ []) grown faults.1) (symbol_scoped i.name kind r (λ c. planned c r.level) h) in
       let one = each i (outer ++ elaborated r ∷ []) in
       let adds : scope_after (elaborate i) (outer ++ elaborated r ∷ []) ≡ outer ++ elaborated new ∷ [] = one.1 ∙ one_elaborated i.name kind r in
       let others : Elaborates known (scope_after (elaborate i) (outer ++ elaborated r ∷ [])) (map elaborate is) (outer ++ elaborated (d.declared_names is kind new) ∷ []) =
@@ -426,11 +431,11 @@ module _ (known : Known) (outer : Scope) (full : Elaborated) where
   all_begin (i ∷ is) at number low is_array count h =
       one_created known (outer ++ full ∷ []) (tree.declare_tasks at (record { task_type = number; name = i.name; low = low; is_array = is_array; length = count })) (d.task_elaborations is at number low is_array count) (h.declared, h.entered, h.alone, h.outer refl) (all_begin is at number low is_array count h)
 
-  begun_scoped : (is : List Ident) (at : Pos) (number : ℕ) (low : ℤ) (is_array : Bool) (kind : Kind) (n : Place) → d.twice_faults is kind (names.innermost n) ≡ [] → InBody known outer full n → IsTaskType (when true known) (outer ++ full ∷ []) number
+  begun_scoped : (is : List Ident) (at : Pos) (number : ℕ) (low : ℤ) (is_array : Bool) (kind : Kind) (n : Place) → ((c : Bool) (level : ℕ) → IsPlannedAt (when c known) level kind) → d.twice_faults is kind (names.innermost n) ≡ [] → InBody known outer full n → IsTaskType (when true known) (outer ++ full ∷ []) number
       → DeclaredScoped n (record { place = names.in_region (d.declared_names is kind (names.innermost n)) n; elaborations = d.task_elaborations is at number low is_array (arrays.cells_of kind) })
-  begun_scoped is at number low is_array kind n q h i =
+  begun_scoped is at number low is_array kind n planned q h i =
       let elaborate : Ident → tree.Statement = λ j. tree.declare_tasks at (record { task_type = number; name = j.name; low = low; is_array = is_array; length = arrays.cells_of kind }) in
-      let all = each_declared known outer full elaborate kind (λ j scope. (tt, refl)) is (names.innermost n) q h.innermost in
+      let all = each_declared known outer full elaborate kind (λ j scope. (tt, refl)) planned is (names.innermost n) q h.innermost in
       let more = cells_more is kind (names.innermost n) in
       (others_stay n (d.declared_names is kind (names.innermost n)) more h all.0, more, all.1, all_begin is at number low is_array (arrays.cells_of kind) i)
 
@@ -446,7 +451,7 @@ module _ (known : Known) (outer : Scope) (full : Elaborated) where
 
       by : (m : Option ℕ) → d.tasks_meant (d.marked mark is n) initial is_constant ≡ m → (d.objects_as m is at mark initial is_constant n).faults ≡ [] → DeclaredScoped n (d.objects_as m is at mark initial is_constant n).made
       by None p q = scalars_scoped first others at mark initial is_constant n q h
-      by (Some number) p q = begun_scoped is at number (pos 0) false (Task number) n q h (marked_tasks (when true known) (outer ++ full ∷ []) (d.marked mark is n) initial is_constant number p (seen_behind n is mark.name h more))
+      by (Some number) p q = begun_scoped is at number (pos 0) false (Task number) n (λ c l. tt) q h (marked_tasks (when true known) (outer ++ full ∷ []) (d.marked mark is n) initial is_constant number p (seen_behind n is mark.name h more))
 
   no_tasks : (is : List Ident) (at : Pos) (t : Option Subtype) (kind : Kind) → AllCreated known (outer ++ full ∷ []) (d.array_elaborations is at t kind)
   no_tasks [] at t kind = none_created known (outer ++ full ∷ [])
@@ -457,7 +462,7 @@ module _ (known : Known) (outer : Scope) (full : Elaborated) where
       let t : Option Subtype = d.subtype_meant (d.marked mark is n) in
       let kind : Kind = d.arrays_kind low high t in
       let elaborate : Ident → tree.Statement = λ i. tree.declare_array at (d.known t) (arrays.cells_of kind) in
-      let all = each_declared known outer full elaborate kind (λ j scope. (tt, refl)) is (names.innermost n) (both_none _ _ (both_none _ _ (both_none (arrays.bound_faults low) _ q).1).1).1 h.innermost in
+      let all = each_declared known outer full elaborate kind (λ j scope. (tt, refl)) (λ c l. tt) is (names.innermost n) (both_none _ _ (both_none _ _ (both_none (arrays.bound_faults low) _ q).1).1).1 h.innermost in
       let more = cells_more is kind (names.innermost n) in
       (others_stay n (d.declared_names is kind (names.innermost n)) more h all.0, more, all.1, no_tasks is at t kind)
 
@@ -467,7 +472,7 @@ module _ (known : Known) (outer : Scope) (full : Elaborated) where
       by : (m : Option ℕ) → d.task_type_meant (d.marked mark is n) ≡ m → (d.arrays_as m is at low high mark n).faults ≡ [] → DeclaredScoped n (d.arrays_as m is at low high mark n).made
       by None p q = rows_scoped is at low high mark n q h
       by (Some number) p q =
-          begun_scoped is at number (arrays.or_zero (arrays.bound_value low)) true (d.tasks_kind low high number) n (both_none _ _ (both_none (arrays.bound_faults low) _ q).1).1 h (marked_type (when true known) (outer ++ full ∷ []) (d.marked mark is n) number p (seen_behind n is mark.name h more))
+          begun_scoped is at number (arrays.or_zero (arrays.bound_value low)) true (d.tasks_kind low high number) n (λ c l. tt) (both_none _ _ (both_none (arrays.bound_faults low) _ q).1).1 h (marked_type (when true known) (outer ++ full ∷ []) (d.marked mark is n) number p (seen_behind n is mark.name h more))
 
   pub exceptions_scoped : (is : List Ident) (n : Place) (t : Tables) → (d.checked_exceptions is n t).faults ≡ [] → length (d.checked_exceptions is n t).tables.exceptions ≤ length known.plan.exceptions → InBody known outer full n → DeclaredScoped n (d.checked_exceptions is n t).made
   exceptions_scoped is n t q enough h =
@@ -508,7 +513,7 @@ module _ (known : Known) (outer : Scope) (full : Elaborated) where
 
   task_symbol_scoped : (is_type : Bool) (name : List ℕ) (number : ℕ) (r : Region) → ((c : Bool) (e : Elaborated) → (c ≡ true → full.cells ≤ e.cells) → IsTaskType (when c known) (outer ++ e ∷ []) number) → RegionScoped known outer full r → RegionScoped known outer full (tasks.with_task_symbol is_type name number r)
   task_symbol_scoped true name number r begins h = type_scoped name number r begins h
-  task_symbol_scoped false name number r begins h = symbol_scoped known outer full name (Task number) r h
+  task_symbol_scoped false name number r begins h = symbol_scoped known outer full name (Task number) r (λ c. tt) h
 
   awaiting_scoped : (i : Ident) (number unit : ℕ) (r : Region) → RegionScoped known outer full r → RegionScoped known outer full (tasks.awaiting i number unit r)
   awaiting_scoped i number unit r h = record { level = h.level; symbols = h.symbols; named = h.named; celled = h.celled; entries = h.entries; parts = h.parts }
@@ -576,7 +581,7 @@ module _ (known : Known) (outer : Scope) (full : Elaborated) where
 
   pub in_loop : (i : Ident) (n : Place) → known.complete ≡ true → Fits known outer n → InBody known outer full (regions.in_loop i n)
   in_loop i n whole h = record {
-    innermost = symbol_scoped known outer full i.name (d.scalar (Some Integer) true) (names.next_frame n) (next_scoped n h);
+    innermost = symbol_scoped known outer full i.name (d.scalar (Some Integer) true) (names.next_frame n) (λ c. tt) (next_scoped n h);
     others = λ c e more. regions_more (when c known) outer e n.regions (regions_when known outer whole c n.regions h.regions);
   }
 
@@ -587,7 +592,7 @@ module _ (known : Known) (outer : Scope) (full : Elaborated) where
 
   -- a task's entries are declared with its body's declarations
 
-  entry_added : (name : List ℕ) (number : ℕ) (r : Region) → IsTaskEntry known.plan number → RegionScoped known outer full r → 1 ≤ r.cells → RegionScoped known outer full (record r { symbols = r.symbols ++ (name, Entry (record { number = number; owner = Single (names.own_cell r.level) })) ∷ [] })
+  entry_added : (name : List ℕ) (number : ℕ) (r : Region) → IsOfTask known number → RegionScoped known outer full r → 1 ≤ r.cells → RegionScoped known outer full (record r { symbols = r.symbols ++ (name, Entry (record { number = number; owner = Single (names.own_cell r.level) })) ∷ [] })
   entry_added name number r there h own =
       let s : Symbol = (name, Entry (record { number = number; owner = Single (names.own_cell r.level) })) in
       record {
@@ -599,7 +604,7 @@ module _ (known : Known) (outer : Scope) (full : Elaborated) where
         parts = h.parts;
       }
 
-  entry_scoped : (name : List ℕ) (number : ℕ) (r : Region) → IsTaskEntry known.plan number → RegionScoped known outer full r × (r.cells ≡ 1) × (r.names ≡ 1) → RegionScoped known outer full (names.with_entry name number r) × ((names.with_entry name number r).cells ≡ 1) × ((names.with_entry name number r).names ≡ 1)
+  entry_scoped : (name : List ℕ) (number : ℕ) (r : Region) → IsOfTask known number → RegionScoped known outer full r × (r.cells ≡ 1) × (r.names ≡ 1) → RegionScoped known outer full (names.with_entry name number r) × ((names.with_entry name number r).cells ≡ 1) × ((names.with_entry name number r).names ≡ 1)
   entry_scoped name number r there h =
       either (λ (z : Region). RegionScoped known outer full z × (z.cells ≡ 1) × (z.names ≡ 1)) (names.is_declared name r.symbols) r _ h (entry_added name number r there h.0 (omega (arith, h.1)), h.1, h.2)
 
@@ -662,18 +667,18 @@ task_waits is_type i number unit r q =
 pub procedure_elaborates : (i : Ident) (unit : ℕ) (r : Region) → elaborated (d.with_procedure i unit r) ≡ elaborated r
 procedure_elaborates i unit r = either (λ (z : Region). elaborated z ≡ elaborated r) (names.is_declared i.name r.symbols) r (record r { symbols = r.symbols ++ (i.name, Procedure unit) ∷ [] }) refl refl
 
--- later tables know of more procedures
-pub body_later : (known : Known) (outer : Scope) (full : Elaborated) (more : List (List NamedParameter)) (n : Place) → InBody known outer full n → InBody (later more known) outer full n
-body_later known outer full more n h = record {
+-- later tables know of more procedures and entries
+pub body_later : (known : Known) (outer : Scope) (full : Elaborated) (more others : List (List NamedParameter)) (n : Place) → InBody known outer full n → InBody (later more others known) outer full n
+body_later known outer full more others n h = record {
   innermost = record {
     level = h.innermost.level;
-    symbols = λ c e enough all. symbols_later (when c known) (outer ++ e ∷ []) more (names.innermost n).symbols (h.innermost.symbols c e enough all);
+    symbols = λ c e enough all. symbols_later (when c known) (outer ++ e ∷ []) more others (names.innermost n).symbols (h.innermost.symbols c e enough all);
     named = h.innermost.named;
     celled = h.innermost.celled;
-    entries = h.innermost.entries;
-    parts = λ c e enough all. parts_later (when c known) (outer ++ e ∷ []) more (names.innermost n).parts (h.innermost.parts c e enough all);
+    entries = entries_later known outer more others (names.innermost n).entries h.innermost.entries;
+    parts = λ c e enough all. parts_later (when c known) (outer ++ e ∷ []) more others (names.innermost n).parts (h.innermost.parts c e enough all);
   };
-  others = λ c e enough. regions_later (when c known) (outer ++ e ∷ []) more (names.others_of n.regions) (h.others c e enough);
+  others = λ c e enough. regions_later (when c known) (outer ++ e ∷ []) more others (names.others_of n.regions) (h.others c e enough);
 }
 
 -- the place of a main procedure's declarations

@@ -59,9 +59,9 @@ declarations_widen (plain.more_declarations x xs) n t =
     omega (arith, one_widens x n t, declarations_widen xs first.made.place first.tables)
 
 module _ (plan : Plan) (entries : List Entry) where
-  -- what is created does not ask which procedures are known
+  -- what is created does not ask which procedures and entries are known
   created_anywhere : (t u : Tables) (scope : Scope) (xs : List tree.Statement) → AllCreated (seen plan entries t) scope xs → AllCreated (seen plan entries u) scope xs
-  created_anywhere t u scope xs h = created_with (seen plan entries t) u.profiles scope xs h
+  created_anywhere t u scope xs h = created_with (seen plan entries t) u.profiles u.entry_profiles scope xs h
 
   come_scoped : (t : Tables) (outer : Scope) (full : Elaborated) (name : List ℕ) (r : Region) → RegionScoped (seen plan entries t) outer full r → RegionScoped (seen plan entries t) outer full (names.body_come name r)
   come_scoped t outer full name r h = record { level = h.level; symbols = h.symbols; named = h.named; celled = h.celled; entries = h.entries; parts = h.parts }
@@ -170,18 +170,19 @@ module _ (plan : Plan) (entries : List Entry) where
 
   -- tasks
 
-  entries_in_plan : (t : Tables) (xs : List EntryName) (u : Tables) → ((n : ℕ) → n < length u.entries → (n < length plan.entries) × (slice_index_or plan.entries n no_entry_plan ≡ tree.plan_of_entry (entry_at n u))) → Numbered xs u → EntriesThere (seen plan entries t) xs
-  entries_in_plan t [] u e h = tt
-  entries_in_plan t (x ∷ xs) u e h =
+  entries_in_plan : (xs : List EntryName) (u : Tables) → ((n : ℕ) → n < length u.entries → (n < length plan.entries) × (slice_index_or plan.entries n no_entry_plan ≡ tree.plan_of_entry (entry_at n u))) → Numbered xs u → EntriesThere (seen plan entries u) xs
+  entries_in_plan [] u e h = tt
+  entries_in_plan (x ∷ xs) u e h =
       let there = e x.number h.0.0 in
-      ((there.0, ap (λ (z : tree.EntryPlan). z.unit) there.1 ∙ h.0.1), entries_in_plan t xs u e h.1)
+      let formals = h.0.3 ∙ sym (ap (λ (z : tree.EntryPlan). z.formals) there.1) in
+      (((there.0, h.0.2, formals), ap (λ (z : tree.EntryPlan). z.unit) there.1 ∙ h.0.1), entries_in_plan xs u e h.1)
 
   -- barriers of tasks' entries are True
 
   one_entry_barred : (number : ℕ) (x : plain.EntryDeclaration) (outer : List Region) (es : declared.Entries) → Barred plan entries es.tables → Barred plan entries (declared.one_entry number x outer es).tables
   one_entry_barred number x outer es h =
       let made = declared.entry_added number x.name.name (declared.entry_formals x es.own outer).profile es in
-      either (λ (z : declared.Entries). Barred plan entries z.tables) (names.is_declared x.name.name es.own.symbols) es made h (barred_push plan entries es.tables made.tables (tree.task_entry x.name.name) refl refl h)
+      either (λ (z : declared.Entries). Barred plan entries z.tables) (names.is_declared x.name.name es.own.symbols) es made h (barred_push plan entries es.tables made.tables (tree.task_entry x.name.name (length (declared.entry_formals x es.own outer).profile)) refl refl (λ some. absurd (omega (arith, some))) h)
 
   entries_barred : (number : ℕ) (xs : List plain.EntryDeclaration) (outer : List Region) (es : declared.Entries) → Barred plan entries es.tables → Barred plan entries (declared.declared_entries number xs outer es).tables
   entries_barred number [] outer es h = h
@@ -220,7 +221,7 @@ module _ (plan : Plan) (entries : List Entry) where
       } in
       let grown = further {u = es.tables} (entries_grow number xs here.regions start) (task_grows numbers es.tables) in
       let known_before = body_grown plan entries t u outer full n grown inside in
-      let all_there : EntriesThere (seen plan entries u) es.names = entries_in_plan t es.names es.tables p.entries (entries_numbered number xs here.regions start tt) in
+      let all_there : EntriesThere (seen plan entries u) es.names = entries_in_plan es.names es.tables p.entries (entries_numbered number xs here.regions start r.even_entries tt) in
       let scoped = task_scoped (seen plan entries u) outer full at is_type i number unit es.names n begins all_there once known_before in
       let a : Awaited = record { name = i.name; task_type = number; unit = unit; at = i.at } in
       let waits : waits_in (tasks.with_task is_type i number unit before) ≡ record (waits_in before) { tasks = before.awaited ++ a ∷ [] } = task_waits is_type i number unit before once in

@@ -44,10 +44,10 @@ unfolding AllCreated
 created_append known scope [] ys h i = i
 created_append known scope (x ∷ xs) ys h i = (h.0, created_append known scope xs ys h.1 i)
 
--- whatever procedures are known
-pub created_with : (known : Known) (profiles : List (List NamedParameter)) (scope : Scope) (xs : List tree.Statement) → AllCreated known scope xs → AllCreated (record known { profiles = profiles }) scope xs
+-- whatever procedures and entries are known
+pub created_with : (known : Known) (of_units of_entries : List (List NamedParameter)) (scope : Scope) (xs : List tree.Statement) → AllCreated known scope xs → AllCreated (record known { profiles = of_units; entry_profiles = of_entries }) scope xs
 unfolding AllCreated
-created_with known profiles scope xs h = h
+created_with known of_units of_entries scope xs h = h
 
 pub before_created : (known : Known) (scope : Scope) (x : tree.Statement) (xs : List tree.Statement) → AllCreated known scope (x ∷ xs) → CreatedScoped known.plan known.entries (tree.before x xs) scope
 unfolding AllCreated

@@ -216,9 +216,9 @@ module _ (known : Known) (scope : Scope) where
   terminated_scoped _ h = tt
 
   count_value_scoped : (x : Owner) (k : ℕ) → IsEntry known k → OwnerScoped known k x scope → TypedScoped known.plan scope (e.count_value x k)
-  count_value_scoped (Single v) k there h = (h.0, there)
+  count_value_scoped (Single v) k there h = (h.0, there.0)
   count_value_scoped (Element a) k there h = tt
-  count_value_scoped (owner.Object x) k there h = (h.0, there)
+  count_value_scoped (owner.Object x) k there h = (h.0, there.0)
 
   counted_scoped : (x : named_entry.Entry) (xs : plain.Args) (at : Pos) (n : Place) → IsEntry known x.number → OwnerScoped known x.number x.owner scope → TypedScoped known.plan scope (e.counted x xs at n).typed
   counted_scoped x xs at n there h = either (TypedScoped known.plan scope) (resolution.are_none xs && is_countable x n) (e.count_value x.owner x.number) unknown (count_value_scoped x.owner x.number there h) tt

@@ -4,11 +4,12 @@ use Rattle.std.specs.List.{All, AllByRecursion}
 use Rattle.std.specs.Str.{bytes_eq}
 use Rattle.std.proofs.Common.{◌≡◌, ℕ, zero, suc, ◌+◌, ◌<◌, ◌≤◌, Bool, true, false, List, [], ◌∷◌, ◌++◌, length, slice_index_or, Option, Some, None, if◌then◌else◌, arith, ap, sym, refl, subst, ◌∙◌}
 use Rattle.std.proofs.lemmas.Map.Entries.{All-lookup}
+use Rattle.std.proofs.lemmas.Bool.{eqb-true}
 use Rattle.std.proofs.lemmas.List.{length-append, get_or_append_left}
 use Rattle.aud_syntax.specs.Plain as plain
 use Rattle.aud_typed.specs.declared.program.Variable.{Variable}
 use Rattle.aud_typed.specs.Tree.{Plan}
-use Rattle.aud_typed.specs.Why.Scoped.{Elaborated, Scope, cells_at, IsElaborated, AreElaborated, IsThere, Entry, entry_of, AreOpen, AreAround, entry_unit, IsTaskEntry, no_task}
+use Rattle.aud_typed.specs.Why.Scoped.{Elaborated, Scope, cells_at, IsElaborated, AreElaborated, IsThere, Entry, entry_of, AreOpen, AreAround, entry_unit, formals_of, object_level, NamedOutside, NamedInside, no_task}
 use Rattle.aud_names.specs.declared.entries.EntryName.{EntryName}
 use Rattle.aud_names.specs.declared.names.NamedParameter.{NamedParameter}
 use Rattle.aud_names.specs.declared.names.Owner.{Owner}
@@ -29,12 +30,13 @@ use Rattle.aud_names.specs.Objects as objects
 use Rattle.aud_names.specs.Names as names
 use Rattle.aud_names.specs.Names.{Symbol, Region, Place}
 
--- of a program: its plan, how its units are entered, and the formals of those that are declared so far; and whether units are entered
--- here, where all declarations around are elaborated, and not yet within these
+-- of a program: its plan, how its units are entered, and the formals of those that are declared so far, and of the entries; and whether
+-- units are entered here, where all declarations around are elaborated, and not yet within these
 pub record Known : Type 0 where
   pub plan : Plan
   pub entries : List Entry
   pub profiles : List (List NamedParameter)
+  pub entry_profiles : List (List NamedParameter)
   pub complete : Bool
 
 abbrev pub when : Bool → Known → Known
@@ -74,26 +76,49 @@ pub record IsEntryBody (known : Known) (scope : Scope) (number : ℕ) : Type 0 w
   pub entered : entry_unit known.plan number < length known.entries
   pub outer : known.complete ≡ true → AreAround (entry_of known.entries (entry_unit known.plan number)).outer scope
 
--- an entry may be called: it is there, one of tasks has no body, and the cell with its task's or object's number is elaborated
+-- the cell that names an object, from within its body or from outside, is that of its level, by the unit of an operation or entry
+abbrev pub NamedBy : (inside : Bool) → Variable → Scope → Type 0
+NamedBy true v outer = NamedInside v outer
+NamedBy false v outer = NamedOutside v outer
+
+abbrev pub IsNamed : Known → (inside : Bool) → Variable → (unit : ℕ) → Type 0
+IsNamed known inside v unit = known.complete ≡ true → NamedBy inside v (entry_of known.entries unit).outer
+
+-- from outside it lies in the region that declares the object
+abbrev pub IsDeclaredAt : Known → Instance → Type 0
+IsDeclaredAt known x = names.is_inside x.access ≡ false → known.complete ≡ true → suc x.variable.level ≡ object_level known.plan x.object
+
+-- this is a unit of an operation or entry of an object
+abbrev pub IsOfObject : Known → (object unit : ℕ) → Type 0
+IsOfObject known object unit = known.complete ≡ true → length (entry_of known.entries unit).outer ≡ suc (object_level known.plan object)
+
+-- an entry may be called: one of tasks has no body, and the cell with its task's or object's number is elaborated
 abbrev pub OwnerScoped : Known → ℕ → Owner → Scope → Type 0
 OwnerScoped known number (Single v) scope = IsElaborated v scope × (entry_unit known.plan number ≡ 0)
 OwnerScoped known number (Element a) scope = AreElaborated (task_array_at a) scope × (entry_unit known.plan number ≡ 0)
-OwnerScoped known number (owner.Object x) scope = IsElaborated x.variable scope × IsEntryBody known scope number
+OwnerScoped known number (owner.Object x) scope =
+    IsElaborated x.variable scope × IsEntryBody known scope number × IsNamed known (names.is_inside x.access) x.variable (entry_unit known.plan number)
 
+-- it is declared, and has its formals
 abbrev pub IsEntry : Known → ℕ → Type 0
-IsEntry known number = number < length known.plan.entries
+IsEntry known number =
+    (number < length known.plan.entries) × (number < length known.entry_profiles) × (length (slice_index_or known.entry_profiles number []) ≡ formals_of known.plan number)
+
+-- and has no body
+abbrev pub IsOfTask : Known → ℕ → Type 0
+IsOfTask known number = IsEntry known number × (entry_unit known.plan number ≡ 0)
 
 -- what an object declares may be used from outside
-abbrev pub PartScoped : Known → Scope → PartKind → Type 0
-PartScoped known scope (part.Entry number unit) = IsEntry known number × IsEntryBody known scope number
-PartScoped known scope (part.Operation unit subprogram) = IsOperation known scope false unit
-PartScoped known scope (part.Component s) = Unit {0}
+abbrev pub PartScoped : Known → Scope → (object : ℕ) → PartKind → Type 0
+PartScoped known scope object (part.Entry number unit) = IsEntry known number × IsEntryBody known scope number × IsOfObject known object (entry_unit known.plan number)
+PartScoped known scope object (part.Operation unit subprogram) = IsOperation known scope false unit × IsOfObject known object unit
+PartScoped known scope object (part.Component s) = Unit {0}
 
 abbrev pub PartsThere : Known → Scope → List ObjectPart → Type 0
-PartsThere known scope ps = AllByRecursion (λ p. PartScoped known scope p.part.kind) ps
+PartsThere known scope ps = AllByRecursion (λ p. PartScoped known scope p.object p.part.kind) ps
 
 abbrev pub EntriesThere : Known → List EntryName → Type 0
-EntriesThere known xs = AllByRecursion (λ x. IsTaskEntry known.plan x.number) xs
+EntriesThere known xs = AllByRecursion (λ x. IsOfTask known x.number) xs
 
 -- what has this meaning may be used
 abbrev pub MeaningScoped : Known → Scope → Meaning → Type 0
@@ -105,8 +130,9 @@ MeaningScoped known scope (TaskType number) = IsTaskType known scope number
 MeaningScoped known scope (Task t) = IsElaborated t.variable scope
 MeaningScoped known scope (TaskArray a) = AreElaborated (task_array_at a) scope
 MeaningScoped known scope (meaning.Entry e) = IsEntry known e.number × OwnerScoped known e.number e.owner scope
-MeaningScoped known scope (Protected x) = IsElaborated x.variable scope
-MeaningScoped known scope (Operation o) = IsElaborated o.instance.variable scope × IsOperation known scope (names.is_inside o.instance.access) o.unit
+MeaningScoped known scope (Protected x) = IsElaborated x.variable scope × IsDeclaredAt known x
+MeaningScoped known scope (Operation o) =
+    IsElaborated o.instance.variable scope × IsOperation known scope (names.is_inside o.instance.access) o.unit × IsNamed known (names.is_inside o.instance.access) o.instance.variable o.unit
 MeaningScoped known scope _ = Unit {0}
 
 abbrev pub VisibleScoped : Known → Scope → Option Meaning → Type 0
@@ -121,8 +147,8 @@ RegionsScoped known scope rs = AllByRecursion (λ r. SymbolsScoped known scope r
 -- all that is visible may be used, each entry of a task is there, and what objects declare may be used from outside
 pub record Sees (known : Known) (scope : Scope) (n : Place) : Type 0 where
   pub visible : (name : List ℕ) → VisibleScoped known scope (names.visible name n)
-  pub entries : (name : List ℕ) (task_type : ℕ) → IfSome (names.entry_named name task_type n.regions) (λ k. IsTaskEntry known.plan k)
-  pub parts : (name : List ℕ) (object : ℕ) → IfSome (objects.part_named name object n.regions) (λ c. PartScoped known scope c.kind)
+  pub entries : (name : List ℕ) (task_type : ℕ) → IfSome (names.entry_named name task_type n.regions) (λ k. IsOfTask known k)
+  pub parts : (name : List ℕ) (object : ℕ) → IfSome (objects.part_named name object n.regions) (λ c. PartScoped known scope object c.kind)
   pub inside : (name : List ℕ) (v : Variable) → VisibleScoped known scope (names.named_inside name v n.regions)
 
 -- a place whose innermost region has the innermost frame
@@ -184,16 +210,16 @@ module _ (known : Known) (scope : Scope) (e : Elaborated) where
   owner_more : (number : ℕ) (x : Owner) → OwnerScoped known number x scope → OwnerScoped known number x (scope ++ e ∷ [])
   owner_more number (Single v) h = (omega (arith, h.0, cells_more v.level scope e), h.1)
   owner_more number (Element a) h = (omega (arith, h.0, cells_more a.first.level scope e), h.1)
-  owner_more number (owner.Object x) h = (omega (arith, h.0, cells_more x.variable.level scope e), entry_body_more number h.1)
+  owner_more number (owner.Object x) h = (omega (arith, h.0, cells_more x.variable.level scope e), entry_body_more number h.1, h.2)
 
-  part_more : (k : PartKind) → PartScoped known scope k → PartScoped known (scope ++ e ∷ []) k
-  part_more (part.Entry number unit) h = (h.0, entry_body_more number h.1)
-  part_more (part.Operation unit subprogram) h = operation_more false unit h
-  part_more (part.Component s) h = tt
+  part_more : (object : ℕ) (k : PartKind) → PartScoped known scope object k → PartScoped known (scope ++ e ∷ []) object k
+  part_more object (part.Entry number unit) h = (h.0, entry_body_more number h.1, h.2)
+  part_more object (part.Operation unit subprogram) h = (operation_more false unit h.0, h.1)
+  part_more object (part.Component s) h = tt
 
   pub parts_more : (ps : List ObjectPart) → PartsThere known scope ps → PartsThere known (scope ++ e ∷ []) ps
   parts_more [] h = tt
-  parts_more (p ∷ ps) h = (part_more p.part.kind h.0, parts_more ps h.1)
+  parts_more (p ∷ ps) h = (part_more p.object p.part.kind h.0, parts_more ps h.1)
 
   meaning_more : (m : Meaning) → MeaningScoped known scope m → MeaningScoped known (scope ++ e ∷ []) m
   meaning_more (Object o) h = omega (arith, h, cells_more o.variable.level scope e)
@@ -207,8 +233,8 @@ module _ (known : Known) (scope : Scope) (e : Elaborated) where
   meaning_more (Task t) h = omega (arith, h, cells_more t.variable.level scope e)
   meaning_more (TaskArray a) h = omega (arith, h, cells_more a.first.level scope e)
   meaning_more (meaning.Entry x) h = (h.0, owner_more x.number x.owner h.1)
-  meaning_more (Protected x) h = omega (arith, h, cells_more x.variable.level scope e)
-  meaning_more (Operation o) h = (omega (arith, h.0, cells_more o.instance.variable.level scope e), operation_more (names.is_inside o.instance.access) o.unit h.1)
+  meaning_more (Protected x) h = (omega (arith, h.0, cells_more x.variable.level scope e), h.1)
+  meaning_more (Operation o) h = (omega (arith, h.0, cells_more o.instance.variable.level scope e), operation_more (names.is_inside o.instance.access) o.unit h.1, h.2)
   meaning_more Barred h = tt
 
   -- what is further out is elaborated still
@@ -229,29 +255,35 @@ module _ (known : Known) (scope : Scope) where
   inside_scoped name v [] h = tt
   inside_scoped name v (r ∷ rs) h = either (VisibleScoped known scope) (names.has_cell v r) _ _ (All-lookup (MeaningScoped known scope) (bytes_eq name) r.symbols h.0.0) (inside_scoped name v rs h.1)
 
-  entry_in_there : (name : List ℕ) (task_type : ℕ) (xs : List EntryName) → EntriesThere known xs → IfSome (names.entry_in name task_type xs) (λ k. IsTaskEntry known.plan k)
+  entry_in_there : (name : List ℕ) (task_type : ℕ) (xs : List EntryName) → EntriesThere known xs → IfSome (names.entry_in name task_type xs) (λ k. IsOfTask known k)
   entry_in_there name task_type [] h = tt
-  entry_in_there name task_type (x ∷ xs) h = either (λ o. IfSome o (λ k. IsTaskEntry known.plan k)) (nat_eq task_type x.task_type && bytes_eq name x.name) (Some x.number) _ h.0 (entry_in_there name task_type xs h.1)
+  entry_in_there name task_type (x ∷ xs) h = either (λ o. IfSome o (λ k. IsOfTask known k)) (nat_eq task_type x.task_type && bytes_eq name x.name) (Some x.number) _ h.0 (entry_in_there name task_type xs h.1)
 
-  or_there : (x y : Option ℕ) → IfSome x (λ k. IsTaskEntry known.plan k) → IfSome y (λ k. IsTaskEntry known.plan k) → IfSome (names.or_outside x y) (λ k. IsTaskEntry known.plan k)
+  or_there : (x y : Option ℕ) → IfSome x (λ k. IsOfTask known k) → IfSome y (λ k. IsOfTask known k) → IfSome (names.or_outside x y) (λ k. IsOfTask known k)
   or_there None y h i = i
   or_there (Some k) y h i = h
 
-  entry_there : (name : List ℕ) (task_type : ℕ) (rs : List Region) → RegionsScoped known scope rs → IfSome (names.entry_named name task_type rs) (λ k. IsTaskEntry known.plan k)
+  entry_there : (name : List ℕ) (task_type : ℕ) (rs : List Region) → RegionsScoped known scope rs → IfSome (names.entry_named name task_type rs) (λ k. IsOfTask known k)
   entry_there name task_type [] h = tt
   entry_there name task_type (r ∷ rs) h = or_there (names.entry_in name task_type r.entries) _ (entry_in_there name task_type r.entries h.0.1) (entry_there name task_type rs h.1)
 
-  part_in_there : (name : List ℕ) (object : ℕ) (ps : List ObjectPart) → PartsThere known scope ps → IfSome (objects.part_in name object ps) (λ c. PartScoped known scope c.kind)
+  part_in_there : (name : List ℕ) (object : ℕ) (ps : List ObjectPart) → PartsThere known scope ps → IfSome (objects.part_in name object ps) (λ c. PartScoped known scope object c.kind)
   part_in_there name object [] h = tt
-  part_in_there name object (p ∷ ps) h = either (λ o. IfSome o (λ (c : Part). PartScoped known scope c.kind)) (nat_eq object p.object && bytes_eq name p.name) (Some p.part) _ h.0 (part_in_there name object ps h.1)
+  part_in_there name object (p ∷ ps) h = by (nat_eq object p.object) refl (bytes_eq name p.name) (part_in_there name object ps h.1)
+    where
+      by : (b : Bool) → nat_eq object p.object ≡ b → (d : Bool) → IfSome (objects.part_in name object ps) (λ (c : Part). PartScoped known scope object c.kind)
+          → IfSome (if b && d then Some p.part else objects.part_in name object ps) (λ (c : Part). PartScoped known scope object c.kind)
+      by true e true i = subst (λ k. PartScoped known scope k p.part.kind) (sym (eqb-true object p.object e)) h.0
+      by true e false i = i
+      by false e d i = i
 
-  or_part : (x y : Option Part) → IfSome x (λ c. PartScoped known scope c.kind) → IfSome y (λ c. PartScoped known scope c.kind) → IfSome (names.or_outside x y) (λ c. PartScoped known scope c.kind)
-  or_part None y h i = i
-  or_part (Some c) y h i = h
+  or_part : (object : ℕ) (x y : Option Part) → IfSome x (λ c. PartScoped known scope object c.kind) → IfSome y (λ c. PartScoped known scope object c.kind) → IfSome (names.or_outside x y) (λ c. PartScoped known scope object c.kind)
+  or_part object None y h i = i
+  or_part object (Some c) y h i = h
 
-  part_there : (name : List ℕ) (object : ℕ) (rs : List Region) → RegionsScoped known scope rs → IfSome (objects.part_named name object rs) (λ c. PartScoped known scope c.kind)
+  part_there : (name : List ℕ) (object : ℕ) (rs : List Region) → RegionsScoped known scope rs → IfSome (objects.part_named name object rs) (λ c. PartScoped known scope object c.kind)
   part_there name object [] h = tt
-  part_there name object (r ∷ rs) h = or_part (objects.part_in name object r.parts) _ (part_in_there name object r.parts h.0.2) (part_there name object rs h.1)
+  part_there name object (r ∷ rs) h = or_part object (objects.part_in name object r.parts) _ (part_in_there name object r.parts h.0.2) (part_there name object rs h.1)
 
   pub regions_see : (n : Place) → RegionsScoped known scope n.regions → Sees known scope n
   regions_see n h = record {
@@ -268,17 +300,25 @@ module _ (known : Known) (scope : Scope) where
 
   -- what names denote
 
-  entry_selected_scoped : (k : Option ℕ) (x : Owner) (b : Bool) (p : plain.NamePart) (ps : plain.Parts) → IfSome k (λ m. IsTaskEntry known.plan m) → ((m : ℕ) → entry_unit known.plan m ≡ 0 → OwnerScoped known m x scope) → VisibleScoped known scope (resolution.entry_selected k x b p ps).denoted.meaning
+  entry_selected_scoped : (k : Option ℕ) (x : Owner) (b : Bool) (p : plain.NamePart) (ps : plain.Parts) → IfSome k (λ m. IsOfTask known m) → ((m : ℕ) → entry_unit known.plan m ≡ 0 → OwnerScoped known m x scope) → VisibleScoped known scope (resolution.entry_selected k x b p ps).denoted.meaning
   entry_selected_scoped None x b p ps h i = tt
   entry_selected_scoped (Some k) x b p ps h i = either (λ (y : Resolved). VisibleScoped known scope y.denoted.meaning) (resolution.is_last ps) _ _ (h.0, i k h.1) tt
 
   -- what is found behind an object's name outside its body
-  kind_selected_scoped : (k : PartKind) (x : Instance) (p : plain.NamePart) (ps : plain.Parts) → PartScoped known scope k → IsElaborated x.variable scope → names.is_inside x.access ≡ false → VisibleScoped known scope (resolution.kind_selected k x p ps).denoted.meaning
-  kind_selected_scoped (part.Entry number unit) x p ps h e f = either (λ (y : Resolved). VisibleScoped known scope y.denoted.meaning) (resolution.is_last ps) _ _ (h.0, (e, h.1)) tt
-  kind_selected_scoped (part.Operation unit subprogram) x p ps h e f = either (λ (y : Resolved). VisibleScoped known scope y.denoted.meaning) (resolution.is_last ps) _ _ (e, subst (λ b. IsOperation known scope b unit) (sym f) h) tt
+
+  named_outside : (x : Instance) (unit : ℕ) → names.is_inside x.access ≡ false → IsDeclaredAt known x → IsOfObject known x.object unit → IsNamed known (names.is_inside x.access) x.variable unit
+  named_outside x unit f declared own = λ c.
+      let outside : length (entry_of known.entries unit).outer ≡ x.variable.level + 2 = omega (arith, declared f c, own c) in
+      subst (λ b. NamedBy b x.variable (entry_of known.entries unit).outer) (sym f) outside
+
+  kind_selected_scoped : (k : PartKind) (x : Instance) (p : plain.NamePart) (ps : plain.Parts) → PartScoped known scope x.object k → IsElaborated x.variable scope × IsDeclaredAt known x → names.is_inside x.access ≡ false → VisibleScoped known scope (resolution.kind_selected k x p ps).denoted.meaning
+  kind_selected_scoped (part.Entry number unit) x p ps h e f =
+      either (λ (y : Resolved). VisibleScoped known scope y.denoted.meaning) (resolution.is_last ps) _ _ (h.0, (e.0, h.1, named_outside x (entry_unit known.plan number) f e.1 h.2)) tt
+  kind_selected_scoped (part.Operation unit subprogram) x p ps h e f =
+      either (λ (y : Resolved). VisibleScoped known scope y.denoted.meaning) (resolution.is_last ps) _ _ (e.0, subst (λ b. IsOperation known scope b unit) (sym f) h.0, named_outside x unit f e.1 h.1) tt
   kind_selected_scoped (part.Component s) x p ps h e f = tt
 
-  part_selected_scoped : (c : Option Part) (x : Instance) (p : plain.NamePart) (ps : plain.Parts) → IfSome c (λ k. PartScoped known scope k.kind) → IsElaborated x.variable scope → names.is_inside x.access ≡ false → VisibleScoped known scope (resolution.part_selected c x p ps).denoted.meaning
+  part_selected_scoped : (c : Option Part) (x : Instance) (p : plain.NamePart) (ps : plain.Parts) → IfSome c (λ k. PartScoped known scope x.object k.kind) → IsElaborated x.variable scope × IsDeclaredAt known x → names.is_inside x.access ≡ false → VisibleScoped known scope (resolution.part_selected c x p ps).denoted.meaning
   part_selected_scoped None x p ps h e f = tt
   part_selected_scoped (Some c) x p ps h e f = either (λ (y : Resolved). VisibleScoped known scope y.denoted.meaning) c.is_private _ _ tt (kind_selected_scoped c.kind x p ps h e f)
 
@@ -290,7 +330,7 @@ module _ (known : Known) (scope : Scope) where
   inside_selected_scoped (Some _) p ps h = tt
 
 module _ (known : Known) (scope : Scope) (n : Place) (sees : Sees known scope n) where
-  object_selected_scoped : (b : Bool) (x : Instance) (p : plain.NamePart) (ps : plain.Parts) → names.is_inside x.access ≡ b → IsElaborated x.variable scope → VisibleScoped known scope (resolution.object_selected b x p ps n).denoted.meaning
+  object_selected_scoped : (b : Bool) (x : Instance) (p : plain.NamePart) (ps : plain.Parts) → names.is_inside x.access ≡ b → IsElaborated x.variable scope × IsDeclaredAt known x → VisibleScoped known scope (resolution.object_selected b x p ps n).denoted.meaning
   object_selected_scoped true x p ps e h = inside_selected_scoped known scope _ p ps (sees.inside (resolution.part_ident p).name x.variable)
   object_selected_scoped false x p ps e h = part_selected_scoped known scope _ x p ps (sees.parts (resolution.part_ident p).name x.object) h e
 
@@ -335,24 +375,24 @@ module _ (known : Known) (scope : Scope) (whole : known.complete ≡ true) (c : 
   owner_when : (number : ℕ) (x : Owner) → OwnerScoped known number x scope → OwnerScoped (when c known) number x scope
   owner_when number (Single v) h = h
   owner_when number (Element a) h = h
-  owner_when number (owner.Object x) h = (h.0, entry_body_when number h.1)
+  owner_when number (owner.Object x) h = (h.0, entry_body_when number h.1, λ _. h.2 whole)
 
-  part_when : (k : PartKind) → PartScoped known scope k → PartScoped (when c known) scope k
-  part_when (part.Entry number unit) h = (h.0, entry_body_when number h.1)
-  part_when (part.Operation unit subprogram) h = operation_when false unit h
-  part_when (part.Component s) h = tt
+  part_when : (object : ℕ) (k : PartKind) → PartScoped known scope object k → PartScoped (when c known) scope object k
+  part_when object (part.Entry number unit) h = (h.0, entry_body_when number h.1, λ _. h.2 whole)
+  part_when object (part.Operation unit subprogram) h = (operation_when false unit h.0, λ _. h.1 whole)
+  part_when object (part.Component s) h = tt
 
   pub parts_when : (ps : List ObjectPart) → PartsThere known scope ps → PartsThere (when c known) scope ps
   parts_when [] h = tt
-  parts_when (p ∷ ps) h = (part_when p.part.kind h.0, parts_when ps h.1)
+  parts_when (p ∷ ps) h = (part_when p.object p.part.kind h.0, parts_when ps h.1)
 
   meaning_when : (m : Meaning) → MeaningScoped known scope m → MeaningScoped (when c known) scope m
   meaning_when (Object o) h = h
   meaning_when (Array a) h = h
   meaning_when (Exception x) h = h
   meaning_when (Procedure unit) h = record { declared = h.declared; entered = h.entered; formals = h.formals; outer = λ _. h.outer whole }
-  meaning_when (Protected x) h = h
-  meaning_when (Operation o) h = (h.0, operation_when (names.is_inside o.instance.access) o.unit h.1)
+  meaning_when (Protected x) h = (h.0, λ f _. h.1 f whole)
+  meaning_when (Operation o) h = (h.0, operation_when (names.is_inside o.instance.access) o.unit h.1, λ _. h.2 whole)
   meaning_when Barred h = tt
   meaning_when (TaskType number) h = record { declared = h.declared; entered = h.entered; alone = h.alone; outer = λ _. h.outer whole }
   meaning_when (Task t) h = h
@@ -366,13 +406,13 @@ module _ (known : Known) (scope : Scope) (whole : known.complete ≡ true) (c : 
   regions_when [] h = tt
   regions_when (r ∷ rs) h = (((λ k d l. meaning_when _ (h.0.0 k d l)), h.0.1, parts_when r.parts h.0.2), regions_when rs h.1)
 
--- More procedures are declared.
+-- More procedures and entries are declared.
 
-abbrev pub later : List (List NamedParameter) → Known → Known
-later more known = record known { profiles = known.profiles ++ more }
+abbrev pub later : List (List NamedParameter) → List (List NamedParameter) → Known → Known
+later more others known = record known { profiles = known.profiles ++ more; entry_profiles = known.entry_profiles ++ others }
 
-module _ (known : Known) (scope : Scope) (more : List (List NamedParameter)) where
-  callable_later : (unit : ℕ) → IsCallable known scope unit → IsCallable (later more known) scope unit
+module _ (known : Known) (scope : Scope) (more others : List (List NamedParameter)) where
+  callable_later : (unit : ℕ) → IsCallable known scope unit → IsCallable (later more others known) scope unit
   callable_later unit h = record {
     declared = omega (arith, h.declared, length-append known.profiles more);
     entered = h.entered;
@@ -380,7 +420,7 @@ module _ (known : Known) (scope : Scope) (more : List (List NamedParameter)) whe
     outer = h.outer;
   }
 
-  operation_later : (inside : Bool) (unit : ℕ) → IsOperation known scope inside unit → IsOperation (later more known) scope inside unit
+  operation_later : (inside : Bool) (unit : ℕ) → IsOperation known scope inside unit → IsOperation (later more others known) scope inside unit
   operation_later inside unit h = record {
     declared = omega (arith, h.declared, length-append known.profiles more);
     entered = h.entered;
@@ -388,21 +428,32 @@ module _ (known : Known) (scope : Scope) (more : List (List NamedParameter)) whe
     outer = h.outer;
   }
 
-  owner_later : (number : ℕ) (x : Owner) → OwnerScoped known number x scope → OwnerScoped (later more known) number x scope
+  owner_later : (number : ℕ) (x : Owner) → OwnerScoped known number x scope → OwnerScoped (later more others known) number x scope
   owner_later number (Single v) h = h
   owner_later number (Element a) h = h
-  owner_later number (owner.Object x) h = (h.0, record { entered = h.1.entered; outer = h.1.outer })
+  owner_later number (owner.Object x) h = (h.0, record { entered = h.1.entered; outer = h.1.outer }, h.2)
 
-  part_later : (k : PartKind) → PartScoped known scope k → PartScoped (later more known) scope k
-  part_later (part.Entry number unit) h = (h.0, record { entered = h.1.entered; outer = h.1.outer })
-  part_later (part.Operation unit subprogram) h = operation_later false unit h
-  part_later (part.Component s) h = tt
+  entry_later : (number : ℕ) → IsEntry known number → IsEntry (later more others known) number
+  entry_later number h = (
+    h.0,
+    omega (arith, h.1, length-append known.entry_profiles others),
+    ap length (get_or_append_left known.entry_profiles others [] number h.1) ∙ h.2,
+  )
 
-  pub parts_later : (ps : List ObjectPart) → PartsThere known scope ps → PartsThere (later more known) scope ps
+  pub entries_later : (xs : List EntryName) → EntriesThere known xs → EntriesThere (later more others known) xs
+  entries_later [] h = tt
+  entries_later (x ∷ xs) h = ((entry_later x.number h.0.0, h.0.1), entries_later xs h.1)
+
+  part_later : (object : ℕ) (k : PartKind) → PartScoped known scope object k → PartScoped (later more others known) scope object k
+  part_later object (part.Entry number unit) h = (entry_later number h.0, record { entered = h.1.entered; outer = h.1.outer }, h.2)
+  part_later object (part.Operation unit subprogram) h = (operation_later false unit h.0, h.1)
+  part_later object (part.Component s) h = tt
+
+  pub parts_later : (ps : List ObjectPart) → PartsThere known scope ps → PartsThere (later more others known) scope ps
   parts_later [] h = tt
-  parts_later (p ∷ ps) h = (part_later p.part.kind h.0, parts_later ps h.1)
+  parts_later (p ∷ ps) h = (part_later p.object p.part.kind h.0, parts_later ps h.1)
 
-  meaning_later : (m : Meaning) → MeaningScoped known scope m → MeaningScoped (later more known) scope m
+  meaning_later : (m : Meaning) → MeaningScoped known scope m → MeaningScoped (later more others known) scope m
   meaning_later (Object o) h = h
   meaning_later (Array a) h = h
   meaning_later (Exception x) h = h
@@ -410,20 +461,20 @@ module _ (known : Known) (scope : Scope) (more : List (List NamedParameter)) whe
   meaning_later (TaskType number) h = record { declared = h.declared; entered = h.entered; alone = h.alone; outer = h.outer }
   meaning_later (Task t) h = h
   meaning_later (TaskArray a) h = h
-  meaning_later (meaning.Entry x) h = (h.0, owner_later x.number x.owner h.1)
+  meaning_later (meaning.Entry x) h = (entry_later x.number h.0, owner_later x.number x.owner h.1)
   meaning_later (Protected x) h = h
-  meaning_later (Operation o) h = (h.0, operation_later (names.is_inside o.instance.access) o.unit h.1)
+  meaning_later (Operation o) h = (h.0, operation_later (names.is_inside o.instance.access) o.unit h.1, h.2)
   meaning_later Barred h = tt
   meaning_later (ScalarType t) h = tt
   meaning_later (Literal b) h = tt
   meaning_later (Builtin b) h = tt
 
-  pub symbols_later : (xs : List Symbol) → SymbolsScoped known scope xs → SymbolsScoped (later more known) scope xs
+  pub symbols_later : (xs : List Symbol) → SymbolsScoped known scope xs → SymbolsScoped (later more others known) scope xs
   symbols_later xs h = λ k d l. meaning_later _ (h k d l)
 
-  pub regions_later : (rs : List Region) → RegionsScoped known scope rs → RegionsScoped (later more known) scope rs
+  pub regions_later : (rs : List Region) → RegionsScoped known scope rs → RegionsScoped (later more others known) scope rs
   regions_later [] h = tt
-  regions_later (r ∷ rs) h = ((symbols_later r.symbols h.0.0, h.0.1, parts_later r.parts h.0.2), regions_later rs h.1)
+  regions_later (r ∷ rs) h = ((symbols_later r.symbols h.0.0, entries_later r.entries h.0.1, parts_later r.parts h.0.2), regions_later rs h.1)
 
-  pub fits_later : (n : Place) → Fits known scope n → Fits (later more known) scope n
+  pub fits_later : (n : Place) → Fits known scope n → Fits (later more others known) scope n
   fits_later n h = record { regions = regions_later n.regions h.regions; level = h.level }

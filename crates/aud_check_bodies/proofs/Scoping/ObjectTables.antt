@@ -62,7 +62,8 @@ record EntriesOnce (x : objects.ObjectDeclared) : Type 0 where
 operation_once : (object : ℕ) (is_private : Bool) (x : plain.Operation) (outer : List Region) (o : objects.ObjectDeclared) → EntriesOnce o → EntriesOnce (objects.one_operation object is_private x outer o)
 operation_once object is_private (plain.entry_operation e) outer o h =
     let number = length o.tables.entries in
-    let more : tree.EntryBody = protected_entry e.name.name (length o.tables.units) in
+    let profile = (objects.operation_formals e.formals o.own (objects.further_out o outer)).profile in
+    let more : tree.EntryBody = protected_entry e.name.name (length profile) (length o.tables.units) in
     let longer = length_push o.tables.entries more in
     record {
       below = below_last o.entries number (length (o.tables.entries ++ more ∷ [])) (omega (arith, longer)) (below_more o.entries number (length (o.tables.entries ++ more ∷ [])) (omega (arith, longer)) h.below);

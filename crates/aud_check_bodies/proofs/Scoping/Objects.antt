@@ -35,11 +35,11 @@ use Rattle.aud_check_bodies.specs.Operations as operations
 use Rattle.aud_check_bodies.specs.Operations.{Head, of_entry, of_procedure, of_function}
 use Rattle.aud_check_bodies.specs.Objects as objects
 use Rattle.aud_check_bodies.specs.Objects.{ObjectDeclared}
-use Rattle.aud_check_bodies.proofs.Scoping.Names.{Known, when, EntriesThere, PartsThere, Reached, MeaningScoped, SymbolsScoped, RegionsScoped, Fits, Sees, either, regions_more, regions_see, open_further, open_within, around_open}
+use Rattle.aud_check_bodies.proofs.Scoping.Names.{Known, when, EntriesThere, PartsThere, NamedBy, Reached, MeaningScoped, SymbolsScoped, RegionsScoped, Fits, Sees, either, regions_more, regions_see, open_further, open_within, around_open}
 use Rattle.aud_check_bodies.proofs.Scoping.Expressions.{initial_scoped, condition_scoped}
 use Rattle.aud_check_bodies.proofs.Scoping.Declarations.{elaborated, InBody, body_regions}
 use Rattle.aud_check_bodies.proofs.Scoping.Alike.{with_new, OfObject, of_object_append, nat_eq_self, own_frame, its_frame, parts_append, parts_level, parts_entries, parts_parts}
-use Rattle.aud_check_bodies.proofs.Scoping.Operations.{OperationIs, EntryIs, PartIs, PartsAre, parts_are_append, parts_grown, parts_there, parts_added}
+use Rattle.aud_check_bodies.proofs.Scoping.Operations.{OperationIs, EntryIs, PartIs, PartsAre, NamesHere, parts_are_append, parts_grown, parts_there, parts_added}
 use Rattle.aud_check_bodies.proofs.Scoping.Tables.{Grows, same, further, unit_grows, protected_entry_grows}
 use Rattle.aud_check_bodies.proofs.Scoping.ObjectTables.{operation_grows, operations_grow, items_grow}
 use Rattle.aud_check_bodies.proofs.Scoping.Plans.{InPlan, first_in_plan, seen}
@@ -123,7 +123,7 @@ module _ (plan : Plan) (entries : List Entry) where
     pub stays : Stay (length t.units) t x.tables
     pub barred : Barred plan entries t → Barred plan entries x.tables
 
-  own_level : (n : Place) (number : ℕ) (ps : List ObjectPart) (r : Region) → r ≡ with_parts (own_instance ((names.innermost n).level + 1) number Outside) ps (named.object_frame n) → r.level ≡ (names.innermost n).level + 1
+  pub own_level : (n : Place) (number : ℕ) (ps : List ObjectPart) (r : Region) → r ≡ with_parts (own_instance ((names.innermost n).level + 1) number Outside) ps (named.object_frame n) → r.level ≡ (names.innermost n).level + 1
   own_level n number ps r h = ap (λ (z : Region). z.level) h ∙ parts_level (own_instance ((names.innermost n).level + 1) number Outside) ps (named.object_frame n)
 
   pub none_declared : (base : ℕ) (t : Tables) (n : Place) (name : List ℕ) (frames scope : Scope) → Declaring base t n name (length t.objects) frames scope (objects.no_parts name n t)
@@ -202,10 +202,10 @@ module _ (plan : Plan) (entries : List Entry) where
   entry_is : (base : ℕ) (t0 t : Tables) (frames : Scope) (name : List ℕ) (profile : List NamedParameter) → base ≤ length t.units → length t.entry_profiles ≡ length t.entries → length t.units < length entries → entry_of entries (length t.units) ≡ of_operation profile frames
       → InPlan plan t0 (protected_entry_kept name profile t) → EntryIs plan entries base (protected_entry_kept name profile t) frames (length t.entries) (length t.units)
   entry_is base t0 t frames name profile after even there e p =
-      let body : tree.EntryBody = protected_entry name (length t.units) in
+      let body : tree.EntryBody = protected_entry name (length profile) (length t.units) in
       let one = length_push t.entries body in
       let planned = p.entries (length t.entries) (omega (arith, one)) in
-      let last = get_or_push t.entries body (tree.task_entry []) (length t.entries) refl in
+      let last = get_or_push t.entries body (tree.task_entry [] 0) (length t.entries) refl in
       record {
         after = after;
         before = omega (arith, length_push t.units no_body);
@@ -215,6 +215,7 @@ module _ (plan : Plan) (entries : List Entry) where
         formals = ap length (get_or_push t.entry_profiles profile [] (length t.entries) even) ∙ ap (λ z. z.formals) (sym e);
         outer = ap (λ z. z.outer) e;
         there = planned.0;
+        taken = ap length (get_or_push t.entry_profiles profile [] (length t.entries) even) ∙ sym (ap (λ (z : tree.EntryPlan). z.formals) (planned.1 ∙ ap tree.plan_of_entry last));
         planned = ap (λ (z : tree.EntryPlan). z.unit) (planned.1 ∙ ap tree.plan_of_entry last);
         own = ap (λ (z : tree.EntryBody). z.unit) last;
       }
@@ -227,7 +228,7 @@ module _ (plan : Plan) (entries : List Entry) where
       let its : entry_of entries (length x.tables.units) ≡ of_operation profile frames = ap (entry_of entries) (omega arith) ∙ r.each 0 (omega arith) in
       let one = entry_is base t x.tables frames e.name.name profile (omega (arith, after, h.grows.even)) r.even_entries (omega (arith, r.long)) its p in
       operation_added base t n name number frames scope x is_private e.name (part.Entry (length x.tables.entries) (length x.tables.units)) u (x.entries ++ length x.tables.entries ∷ []) h (protected_entry_grows e.name.name profile x.tables) refl
-      one refl refl (barred_push plan entries x.tables u (protected_entry e.name.name (length x.tables.units)) refl refl) refl (numbers_level frames x.entries (length x.tables.entries) h.levels (ap (λ k. (entry_of entries k).outer) one.planned ∙ one.outer))
+      one refl refl (barred_push plan entries x.tables u (protected_entry e.name.name (length profile) (length x.tables.units)) refl refl (λ some. ap (λ z. z.formals) its)) refl (numbers_level frames x.entries (length x.tables.entries) h.levels (ap (λ k. (entry_of entries k).outer) one.planned ∙ one.outer))
   one_declared base t n name number frames scope x is_private (plain.procedure_operation i fs) rest after h r p =
       let profile = operation_profile (plain.procedure_operation i fs) n.regions x in
       let its : entry_of entries (length x.tables.units) ≡ of_operation profile frames = ap (entry_of entries) (omega arith) ∙ r.each 0 (omega arith) in
@@ -267,12 +268,12 @@ module _ (plan : Plan) (entries : List Entry) where
       let leveled : level ≡ length here = omega (arith, inside.innermost.level, length_push outer (elaborated (names.innermost n))) in
       let none : SymbolsScoped known scope frame.symbols = All-nil (λ (s : Symbol). MeaningScoped known scope s.1) in
       let own_symbols : SymbolsScoped known scope (with_parts there ps frame).symbols =
-      parts_added plan entries base x.tables frames here e false number level Outside ps frame refl leveled some (λ z. cc) (λ z. cc) (omega (arith, more, ap (λ (z : Region). z.cells) h.own)) h.are none in
+      parts_added plan entries base x.tables frames here e false number level Outside ps frame refl leveled some (record { reach = λ z. cc; around = λ z. cc; named = λ z. cc }) (omega (arith, more, ap (λ (z : Region). z.cells) h.own)) h.are none in
       let own_entries : EntriesThere known (with_parts there ps frame).entries = subst (EntriesThere known) (sym (parts_entries there ps frame)) tt in
       let own_parts : PartsThere known scope (with_parts there ps frame).parts = subst (PartsThere known scope) (sym (parts_parts there ps frame)) tt in
-      let there_parts = parts_there plan entries base x.tables frames scope false number ps (λ z. cc) h.its h.are in
+      let there_parts = parts_there plan entries base x.tables frames scope false number ps (λ z. cc) (λ z. cc) h.its h.are in
       let around_is : SymbolsScoped known scope (named.around_object name (named.body_instance number Outside n) n).symbols =
-      All-from_recursion (λ (s : Symbol). MeaningScoped known scope s.1) (named.around_object name (named.body_instance number Outside n) n).symbols (own_number_there here e level leveled some, tt) in
+      All-from_recursion (λ (s : Symbol). MeaningScoped known scope s.1) (named.around_object name (named.body_instance number Outside n) n).symbols ((own_number_there here e level leveled some, λ f z. cc), tt) in
       let around_all : RegionsScoped known scope (record (named.around_object name (named.body_instance number Outside n) n) { parts = ps } ∷ n.regions) =
       ((around_is, tt, there_parts), regions_more (when false (seen plan entries x.tables)) here e n.regions (body_regions (seen plan entries x.tables) outer full false n (elaborated (names.innermost n)) later (omega arith) (λ z. cc))) in
       subst (λ z. RegionsScoped known scope (z ∷ objects.further_out x n.regions)) (sym h.own)
@@ -345,11 +346,17 @@ module _ (plan : Plan) (entries : List Entry) where
       let r : Region = with_parts there ps frame in
       let whole : elaborated r ≡ e = body_frames access name object n ∙ same in
       let reach : Reached (names.is_inside access) here here = subst (λ b. Reached b here here) (sym within) (open_further scope e e (omega arith)) in
+      let inner : length here ≡ level + 1 = omega (arith, leveled, length_push scope e) in
+      let at : NamesHere plan entries true access (names.own_cell level) here here = record {
+        reach = λ z. reach;
+        around = λ z. around_open scope here e (open_within scope e);
+        named = λ z. subst (λ b. NamedBy b (names.own_cell level) here) (sym within) (refl, inner);
+      } in
       let none : SymbolsScoped known here frame.symbols = All-nil (λ (s : Symbol). MeaningScoped known here s.1) in
-      let own_symbols : SymbolsScoped known here r.symbols = parts_added plan entries base t here scope e true object level access ps frame refl leveled some (λ z. reach) (λ z. around_open scope here e (open_within scope e)) (omega (arith, ap (λ (z : Elaborated). z.cells) whole)) are none in
+      let own_symbols : SymbolsScoped known here r.symbols = parts_added plan entries base t here scope e true object level access ps frame refl leveled some at (omega (arith, ap (λ (z : Elaborated). z.cells) whole)) are none in
       let own_entries : EntriesThere known r.entries = subst (EntriesThere known) (sym (parts_entries there ps frame)) tt in
       let own_parts : PartsThere known here r.parts = subst (PartsThere known here) (sym (parts_parts there ps frame)) tt in
-      let around_is = All-from_recursion (λ (s : Symbol). MeaningScoped known here s.1) (named.around_object name there n).symbols (own_number_there scope e level leveled some, tt) in
+      let around_is = All-from_recursion (λ (s : Symbol). MeaningScoped known here s.1) (named.around_object name there n).symbols ((own_number_there scope e level leveled some, λ f z. let no : true ≡ false = sym within ∙ f in cc), tt) in
       record {
         regions = ((own_symbols, own_entries, own_parts), ((around_is, tt, tt), regions_more known scope e n.regions around));
         level = omega (arith, leveled, parts_level there ps frame, length_push scope e);

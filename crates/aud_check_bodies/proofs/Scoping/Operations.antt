@@ -2,13 +2,14 @@
 use Rattle.std.specs.Prelude.{IfSome, nat_eq, ◌&&◌, if◌then◌else◌}
 use Rattle.std.specs.List.{AllByRecursion}
 use Rattle.std.specs.Str.{bytes_eq}
-use Rattle.std.proofs.Common.{◌≡◌, ℕ, ◌+◌, ◌<◌, ◌≤◌, Bool, true, false, List, [], ◌∷◌, ◌++◌, length, slice_index_or, Some, arith, refl, sym, ◌∙◌, ap, subst}
+use Rattle.std.proofs.Common.{◌≡◌, ℕ, suc, ◌+◌, ◌<◌, ◌≤◌, Bool, true, false, List, [], ◌∷◌, ◌++◌, length, slice_index_or, Some, arith, refl, sym, ◌∙◌, ap, subst}
 use Rattle.std.proofs.lemmas.Bool.{eqb-true}
 use Rattle.std.proofs.lemmas.List.{get_or_append_left, get_or_push, length-append}
 use Rattle.std.proofs.lemmas.List.Elements.{All-push}
+use Rattle.aud_typed.specs.declared.program.Variable.{Variable}
 use Rattle.aud_typed.specs.Tree as tree
 use Rattle.aud_typed.specs.Tree.{Plan}
-use Rattle.aud_typed.specs.Why.Scoped.{Elaborated, Scope, none_yet, cells_at, AreAround, Entry, entry_of, entry_unit}
+use Rattle.aud_typed.specs.Why.Scoped.{Elaborated, Scope, none_yet, cells_at, AreAround, Entry, entry_of, entry_unit, formals_of, object_level}
 use Rattle.aud_names.specs.declared.names.Access.{Access}
 use Rattle.aud_names.specs.declared.names.Instance.{Instance}
 use Rattle.aud_names.specs.declared.parts.ObjectPart.{ObjectPart}
@@ -20,7 +21,7 @@ use Rattle.aud_names.specs.Names.{Symbol, Region}
 use Rattle.aud_names.specs.Objects as objects
 use Rattle.aud_names.specs.Objects.{own_instance, with_part, with_parts}
 use Rattle.aud_check_bodies.specs.Tables.{Tables, entry_at}
-use Rattle.aud_check_bodies.proofs.Scoping.Names.{when, IsOperation, IsEntryBody, Reached, PartScoped, PartsThere, MeaningScoped, SymbolsScoped, either}
+use Rattle.aud_check_bodies.proofs.Scoping.Names.{when, IsOperation, IsEntryBody, IsNamed, IsOfObject, NamedBy, Reached, PartScoped, PartsThere, MeaningScoped, SymbolsScoped, either}
 use Rattle.aud_check_bodies.proofs.Scoping.Alike.{with_new, part_level, parts_more}
 use Rattle.aud_check_bodies.proofs.Scoping.Tables.{Grows}
 use Rattle.aud_check_bodies.proofs.Scoping.Plans.{seen}
@@ -47,6 +48,7 @@ module _ (plan : Plan) (entries : List Entry) where
     pub formals : length (slice_index_or t.entry_profiles number []) ≡ (entry_of entries unit).formals
     pub outer : (entry_of entries unit).outer ≡ frames
     pub there : number < length plan.entries
+    pub taken : length (slice_index_or t.entry_profiles number []) ≡ formals_of plan number
     pub planned : entry_unit plan number ≡ unit
     pub own : (entry_at number t).unit ≡ unit
 
@@ -74,6 +76,7 @@ module _ (plan : Plan) (entries : List Entry) where
     formals = ap (λ l. length (slice_index_or l number [])) g.entry_profiles ∙ ap length (get_or_append_left t.entry_profiles g.more_entry_profiles [] number h.listed) ∙ h.formals;
     outer = h.outer;
     there = h.there;
+    taken = ap (λ l. length (slice_index_or l number [])) g.entry_profiles ∙ ap length (get_or_append_left t.entry_profiles g.more_entry_profiles [] number h.listed) ∙ h.taken;
     planned = h.planned;
     own = ap (λ (e : tree.EntryPlan). e.unit) (g.planned number h.declared) ∙ h.own;
   }
@@ -102,15 +105,26 @@ module _ (plan : Plan) (entries : List Entry) where
     outer = λ z. subst (λ o. AreAround o scope) (sym (ap (λ k. (entry_of entries k).outer) h.planned ∙ h.outer)) (reach z);
   }
 
-  -- from outside
-  part_scoped : (base : ℕ) (t : Tables) (frames scope : Scope) (c : Bool) (k : PartKind) → (c ≡ true → AreAround frames scope) → PartIs base t frames k → PartScoped (when c (seen plan entries t)) scope k
-  part_scoped base t frames scope c (part.Entry number unit) reach h = (h.there, is_entry_body base t frames scope c number unit reach h)
-  part_scoped base t frames scope c (part.Operation unit subprogram) reach h = is_operation base t frames scope c false unit reach h
-  part_scoped base t frames scope c (part.Component s) reach h = tt
+  -- from outside, where the plan tells of the object how many frames are around its own
 
-  pub parts_there : (base : ℕ) (t : Tables) (frames scope : Scope) (c : Bool) (object : ℕ) (ps : List ObjectPart) → (c ≡ true → AreAround frames scope) → AllByRecursion (λ p. p.object ≡ object) ps → PartsAre base t frames object ps → PartsThere (when c (seen plan entries t)) scope ps
-  parts_there base t frames scope c object [] reach its h = tt
-  parts_there base t frames scope c object (p ∷ ps) reach its h = (part_scoped base t frames scope c p.part.kind reach (h.0 its.0), parts_there base t frames scope c object ps reach its.1 h.1)
+  abbrev pub IsPlanned : Bool → ℕ → Scope → Type 0
+  IsPlanned c object frames = c ≡ true → length frames ≡ suc (object_level plan object)
+
+  of_object : (t : Tables) (frames : Scope) (c : Bool) (object unit own : ℕ) → own ≡ unit → (entry_of entries unit).outer ≡ frames → IsPlanned c object frames → IsOfObject (when c (seen plan entries t)) object own
+  of_object t frames c object unit own e is level = λ z. ap (λ k. length (entry_of entries k).outer) e ∙ ap length is ∙ level z
+
+  part_scoped : (base : ℕ) (t : Tables) (frames scope : Scope) (c : Bool) (object : ℕ) (k : PartKind) → (c ≡ true → AreAround frames scope) → IsPlanned c object frames → PartIs base t frames k → PartScoped (when c (seen plan entries t)) scope object k
+  part_scoped base t frames scope c object (part.Entry number unit) reach level h =
+      ((h.there, h.listed, h.taken), is_entry_body base t frames scope c number unit reach h, of_object t frames c object unit (entry_unit plan number) h.planned h.outer level)
+  part_scoped base t frames scope c object (part.Operation unit subprogram) reach level h = (is_operation base t frames scope c false unit reach h, of_object t frames c object unit unit refl h.outer level)
+  part_scoped base t frames scope c object (part.Component s) reach level h = tt
+
+  pub parts_there : (base : ℕ) (t : Tables) (frames scope : Scope) (c : Bool) (object : ℕ) (ps : List ObjectPart) → (c ≡ true → AreAround frames scope) → IsPlanned c object frames → AllByRecursion (λ p. p.object ≡ object) ps → PartsAre base t frames object ps → PartsThere (when c (seen plan entries t)) scope ps
+  parts_there base t frames scope c object [] reach level its h = tt
+  parts_there base t frames scope c object (p ∷ ps) reach level its h = (
+    subst (λ o. PartScoped (when c (seen plan entries t)) scope o p.part.kind) (sym its.0) (part_scoped base t frames scope c object p.part.kind reach level (h.0 its.0)),
+    parts_there base t frames scope c object ps reach level its.1 h.1,
+  )
 
   -- what a part stands for where the object is named by itself, whose number is in the first cell of the innermost frame
 
@@ -119,19 +133,30 @@ module _ (plan : Plan) (entries : List Entry) where
       let here : cells_at level (outer ++ e ∷ []) ≡ e.cells = ap (λ x. x.cells) (get_or_push outer e none_yet level (sym h)) in
       omega (arith, here, more)
 
+  -- what is known of the frames with which its operations are entered, where it is named by a cell
+  pub record NamesHere (c : Bool) (a : Access) (v : Variable) (frames scope : Scope) : Type 0 where
+    pub reach : c ≡ true → Reached (names.is_inside a) frames scope
+    pub around : c ≡ true → AreAround frames scope
+    pub named : c ≡ true → NamedBy (names.is_inside a) v frames
+
+  is_named : (t : Tables) (frames scope : Scope) (c : Bool) (a : Access) (v : Variable) (unit own : ℕ) → own ≡ unit → (entry_of entries unit).outer ≡ frames → NamesHere c a v frames scope → IsNamed (when c (seen plan entries t)) (names.is_inside a) v own
+  is_named t frames scope c a v unit own e is at = λ z. subst (NamedBy (names.is_inside a) v) (sym (ap (λ k. (entry_of entries k).outer) e ∙ is)) (at.named z)
+
   meaning_of_part : (base : ℕ) (t : Tables) (frames outer : Scope) (e : Elaborated) (c : Bool) (level object index : ℕ) (a : Access) (k : PartKind)
-      → level ≡ length outer → 1 ≤ e.cells → (c ≡ true → Reached (names.is_inside a) frames (outer ++ e ∷ [])) → (c ≡ true → AreAround frames (outer ++ e ∷ [])) → index + objects.part_cells k ≤ e.cells → PartIs base t frames k
+      → level ≡ length outer → 1 ≤ e.cells → NamesHere c a (names.own_cell level) frames (outer ++ e ∷ []) → index + objects.part_cells k ≤ e.cells → PartIs base t frames k
       → MeaningScoped (when c (seen plan entries t)) (outer ++ e ∷ []) (objects.part_meaning k (own_instance level object a) (record { level = level; index = index }))
-  meaning_of_part base t frames outer e c level object index a (part.Entry number unit) l more reach around enough h =
-      (h.there, (own_here level 0 outer e l (omega (arith, more)), is_entry_body base t frames (outer ++ e ∷ []) c number unit around h))
-  meaning_of_part base t frames outer e c level object index a (part.Operation unit subprogram) l more reach around enough h =
-      (own_here level 0 outer e l (omega (arith, more)), is_operation base t frames (outer ++ e ∷ []) c (names.is_inside a) unit reach h)
-  meaning_of_part base t frames outer e c level object index a (part.Component s) l more reach around enough h = own_here level index outer e l (omega (arith, enough))
+  meaning_of_part base t frames outer e c level object index a (part.Entry number unit) l more at enough h = (
+    (h.there, h.listed, h.taken),
+    (own_here level 0 outer e l (omega (arith, more)), is_entry_body base t frames (outer ++ e ∷ []) c number unit at.around h, is_named t frames (outer ++ e ∷ []) c a (names.own_cell level) unit (entry_unit plan number) h.planned h.outer at),
+  )
+  meaning_of_part base t frames outer e c level object index a (part.Operation unit subprogram) l more at enough h =
+      (own_here level 0 outer e l (omega (arith, more)), is_operation base t frames (outer ++ e ∷ []) c (names.is_inside a) unit at.reach h, is_named t frames (outer ++ e ∷ []) c a (names.own_cell level) unit unit refl h.outer at)
+  meaning_of_part base t frames outer e c level object index a (part.Component s) l more at enough h = own_here level index outer e l (omega (arith, enough))
 
   part_added : (base : ℕ) (t : Tables) (frames outer : Scope) (e : Elaborated) (c : Bool) (object : ℕ) (a : Access) (name : List ℕ) (k : PartKind) (r : Region)
-      → r.level ≡ length outer → 1 ≤ e.cells → (c ≡ true → Reached (names.is_inside a) frames (outer ++ e ∷ [])) → (c ≡ true → AreAround frames (outer ++ e ∷ [])) → (with_part name k (own_instance r.level object a) r).cells ≤ e.cells → PartIs base t frames k
+      → r.level ≡ length outer → 1 ≤ e.cells → NamesHere c a (names.own_cell r.level) frames (outer ++ e ∷ []) → (with_part name k (own_instance r.level object a) r).cells ≤ e.cells → PartIs base t frames k
       → SymbolsScoped (when c (seen plan entries t)) (outer ++ e ∷ []) r.symbols → SymbolsScoped (when c (seen plan entries t)) (outer ++ e ∷ []) (with_part name k (own_instance r.level object a) r).symbols
-  part_added base t frames outer e c object a name k r l more reach around enough h i = by (names.is_declared name r.symbols) enough
+  part_added base t frames outer e c object a name k r l more at enough h i = by (names.is_declared name r.symbols) enough
     where
       x : Instance
       x = own_instance r.level object a
@@ -140,14 +165,14 @@ module _ (plan : Plan) (entries : List Entry) where
       by true q = i
       by false q =
           All-push (λ (s : Symbol). MeaningScoped (when c (seen plan entries t)) (outer ++ e ∷ []) s.1) r.symbols (name, objects.part_meaning k x (record { level = r.level; index = r.cells })) i
-          (meaning_of_part base t frames outer e c r.level object r.cells a k l more reach around q h)
+          (meaning_of_part base t frames outer e c r.level object r.cells a k l more at q h)
 
   pub parts_added : (base : ℕ) (t : Tables) (frames outer : Scope) (e : Elaborated) (c : Bool) (object level : ℕ) (a : Access) (ps : List ObjectPart) (r : Region)
-      → r.level ≡ level → level ≡ length outer → 1 ≤ e.cells → (c ≡ true → Reached (names.is_inside a) frames (outer ++ e ∷ [])) → (c ≡ true → AreAround frames (outer ++ e ∷ [])) → (with_parts (own_instance level object a) ps r).cells ≤ e.cells → PartsAre base t frames object ps
+      → r.level ≡ level → level ≡ length outer → 1 ≤ e.cells → NamesHere c a (names.own_cell level) frames (outer ++ e ∷ []) → (with_parts (own_instance level object a) ps r).cells ≤ e.cells → PartsAre base t frames object ps
       → SymbolsScoped (when c (seen plan entries t)) (outer ++ e ∷ []) r.symbols → SymbolsScoped (when c (seen plan entries t)) (outer ++ e ∷ []) (with_parts (own_instance level object a) ps r).symbols
-  parts_added base t frames outer e c object level a [] r q l more reach around enough h i = i
-  parts_added base t frames outer e c object level a (p ∷ ps) r q l more reach around enough h i =
-      parts_added base t frames outer e c object level a ps one (one_level ∙ q) l more reach around enough h.1 (by (nat_eq object p.object) refl)
+  parts_added base t frames outer e c object level a [] r q l more at enough h i = i
+  parts_added base t frames outer e c object level a (p ∷ ps) r q l more at enough h i =
+      parts_added base t frames outer e c object level a ps one (one_level ∙ q) l more at enough h.1 (by (nat_eq object p.object) refl)
     where
       x : Instance
       x = own_instance level object a
@@ -168,7 +193,7 @@ module _ (plan : Plan) (entries : List Entry) where
       its b =
           let small : (with_part p.name p.part.kind x r).cells ≤ e.cells = subst (λ d. (if d then with_part p.name p.part.kind x r else r).cells ≤ e.cells) b one_enough in
           subst (λ k. scoped (with_part p.name p.part.kind (own_instance k object a) r)) q
-          (part_added base t frames outer e c object a p.name p.part.kind r (q ∙ l) more reach around (subst (λ k. (with_part p.name p.part.kind (own_instance k object a) r).cells ≤ e.cells) (sym q) small) (h.0 (nat_eq_true object p.object b)) i)
+          (part_added base t frames outer e c object a p.name p.part.kind r (q ∙ l) more (subst (λ k. NamesHere c a (names.own_cell k) frames (outer ++ e ∷ [])) (sym q) at) (subst (λ k. (with_part p.name p.part.kind (own_instance k object a) r).cells ≤ e.cells) (sym q) small) (h.0 (nat_eq_true object p.object b)) i)
 
       by : (b : Bool) → nat_eq object p.object ≡ b → scoped (if b then with_part p.name p.part.kind x r else r)
       by true b = its b

@@ -77,7 +77,7 @@ or_true false = refl
 -- Entries in the tables: those of tasks have no body, and those of objects one of so many units.
 
 abbrev body_of : List tree.EntryBody → ℕ → ℕ
-body_of es n = (slice_index_or es n (tree.task_entry [])).unit
+body_of es n = (slice_index_or es n (tree.task_entry [] 0)).unit
 
 abbrev OfTask : List tree.EntryBody → ℕ → Type 0
 OfTask es n = (n < length es) × (body_of es n ≡ 0)
@@ -123,10 +123,10 @@ module _ (es : List tree.EntryBody) (one : tree.EntryBody) where
   longer = es ++ one ∷ []
 
   same_body : (n : ℕ) → n < length es → body_of longer n ≡ body_of es n
-  same_body n lt = ap (λ (x : tree.EntryBody). x.unit) (get_or_append_left es (one ∷ []) (tree.task_entry []) n lt)
+  same_body n lt = ap (λ (x : tree.EntryBody). x.unit) (get_or_append_left es (one ∷ []) (tree.task_entry [] 0) n lt)
 
   new_body : body_of longer (length es) ≡ one.unit
-  new_body = ap (λ (x : tree.EntryBody). x.unit) (get_or_push es one (tree.task_entry []) (length es) refl)
+  new_body = ap (λ (x : tree.EntryBody). x.unit) (get_or_push es one (tree.task_entry [] 0) (length es) refl)
 
   tasks_stay : (n : ℕ) → OfTask es n → OfTask longer n
   tasks_stay n i = (omega (arith, i.0, length_push es one), same_body n i.0 ∙ i.1)
@@ -141,9 +141,9 @@ below_objects : (es : List tree.EntryBody) (units : ℕ) (ns : List ℕ) → All
 below_objects es units ns h = all_mapped (OfObject es units) (λ n. n < length es) ns (λ n i. i.0) h
 
 -- one entry more, of a task
-task_entry_owned : (ts os : List ℕ) (es : List tree.EntryBody) (units : ℕ) (name : List ℕ) → OwnedIn ts os es units → OwnedIn (ts ++ length es ∷ []) os (es ++ tree.task_entry name ∷ []) units
-task_entry_owned ts os es units name h =
-    let one : tree.EntryBody = tree.task_entry name in
+task_entry_owned : (ts os : List ℕ) (es : List tree.EntryBody) (units : ℕ) (name : List ℕ) (formals : ℕ) → OwnedIn ts os es units → OwnedIn (ts ++ length es ∷ []) os (es ++ tree.task_entry name formals ∷ []) units
+task_entry_owned ts os es units name formals h =
+    let one : tree.EntryBody = tree.task_entry name formals in
     let next : List tree.EntryBody = es ++ one ∷ [] in
     let long : length next ≡ length es + 1 = length_push es one in
     let new : OfTask next (length es) = (omega (arith, long), new_body es one) in
@@ -163,9 +163,9 @@ task_entry_owned ts os es units name h =
     }
 
 -- of an object, with the next unit
-object_entry_owned : (ts os : List ℕ) (es : List tree.EntryBody) (units more : ℕ) (name : List ℕ) → more ≡ units + 1 → OwnedIn ts os es units → OwnedIn ts (os ++ length es ∷ []) (es ++ protected_entry name units ∷ []) more
-object_entry_owned ts os es units more name p h =
-    let one : tree.EntryBody = protected_entry name units in
+object_entry_owned : (ts os : List ℕ) (es : List tree.EntryBody) (units more : ℕ) (name : List ℕ) (formals : ℕ) → more ≡ units + 1 → OwnedIn ts os es units → OwnedIn ts (os ++ length es ∷ []) (es ++ protected_entry name formals units ∷ []) more
+object_entry_owned ts os es units more name formals p h =
+    let one : tree.EntryBody = protected_entry name formals units in
     let next : List tree.EntryBody = es ++ one ∷ [] in
     let long : length next ≡ length es + 1 = length_push es one in
     let is : body_of next (length es) ≡ units = new_body es one in
@@ -218,9 +218,9 @@ task_more numbers t h =
     let more = more_units (entries_of_tasks t.tasks ++ numbers) (entries_of_objects t.objects ++ []) t.entries (length t.units) (length (t.units ++ no_body ∷ [])) (omega (arith, length_push t.units no_body)) h in
     subst (λ l. OwnedIn l (entries_of_objects t.objects ++ []) t.entries (length (t.units ++ no_body ∷ []))) (sym same) more
 
-object_more : (name numbers : List ℕ) (t : Tables) → OwnedWith [] numbers t → Owned (object_kept name numbers t)
-object_more name numbers t h =
-    let object : tree.ObjectPlan = record { name = name; entries = numbers } in
+object_more : (name : List ℕ) (level : ℕ) (numbers : List ℕ) (t : Tables) → OwnedWith [] numbers t → Owned (object_kept name level numbers t)
+object_more name level numbers t h =
+    let object : tree.ObjectPlan = record { name = name; level = level; entries = numbers } in
     let same : entries_of_objects (t.objects ++ object ∷ []) ++ [] ≡ entries_of_objects t.objects ++ numbers = append-nil (entries_of_objects (t.objects ++ object ∷ [])) ∙ objects_with t.objects object in
     subst (λ l. OwnedIn (entries_of_tasks t.tasks ++ []) l t.entries (length t.units)) (sym same) h
 
@@ -228,7 +228,7 @@ barrier_put : (number : ℕ) (b : tree.BooleanExpression) (t : Tables) → Owned
 barrier_put number b t h =
     let u : Tables = with_barrier number b t in
     let grown = barrier_grows number b t in
-    barred_alike (entries_of_tasks t.tasks ++ []) (entries_of_objects t.objects ++ []) t.entries u.entries (length t.units) (length-set t.entries number (record (slice_index_or t.entries number (tree.task_entry [])) { barrier = b })) (λ n lt. ap (λ (x : tree.EntryPlan). x.unit) (grown.planned n lt)) h
+    barred_alike (entries_of_tasks t.tasks ++ []) (entries_of_objects t.objects ++ []) t.entries u.entries (length t.units) (length-set t.entries number (record (slice_index_or t.entries number (tree.task_entry [] 0)) { barrier = b })) (λ n lt. ap (λ (x : tree.EntryPlan). x.unit) (grown.planned n lt)) h
 
 -- Entries of a task.
 
@@ -243,10 +243,10 @@ entry_added : (number : ℕ) (name : List ℕ) (profile : List NamedParameter) (
 entry_added number name profile x h =
     let t : Tables = x.tables in
     let next : EntryName = record { task_type = number; name = name; number = length t.entries } in
-    let new = task_entry_owned (entries_of_tasks t.tasks ++ e.entry_numbers x.names) (entries_of_objects t.objects ++ []) t.entries (length t.units) name h in
+    let new = task_entry_owned (entries_of_tasks t.tasks ++ e.entry_numbers x.names) (entries_of_objects t.objects ++ []) t.entries (length t.units) name (length profile) h in
     let same : (entries_of_tasks t.tasks ++ e.entry_numbers x.names) ++ length t.entries ∷ [] ≡ entries_of_tasks t.tasks ++ e.entry_numbers (x.names ++ next ∷ []) =
     added_last (entries_of_tasks t.tasks) (e.entry_numbers x.names) (length t.entries) ∙ ap (λ l. entries_of_tasks t.tasks ++ l) (sym (numbers_last x.names next)) in
-    subst (λ l. OwnedIn l (entries_of_objects t.objects ++ []) (t.entries ++ tree.task_entry name ∷ []) (length t.units)) same new
+    subst (λ l. OwnedIn l (entries_of_objects t.objects ++ []) (t.entries ++ tree.task_entry name (length profile) ∷ []) (length t.units)) same new
 
 one_entry : (number : ℕ) (y : plain.EntryDeclaration) (outer : List Region) (x : e.Entries) → EntriesAre x → EntriesAre (e.one_entry number y outer x)
 one_entry number y outer x h = by (names.is_declared y.name.name x.own.symbols)
@@ -267,8 +267,9 @@ PartsAre o = OwnedWith [] o.entries o.tables
 operation_added : (number : ℕ) (is_private : Bool) (x : plain.Operation) (outer : List Region) (o : objects.ObjectDeclared) → PartsAre o → PartsAre (objects.one_operation number is_private x outer o)
 operation_added number is_private (plain.entry_operation y) outer o h =
     let t : Tables = o.tables in
-    let new = object_entry_owned (entries_of_tasks t.tasks ++ []) (entries_of_objects t.objects ++ o.entries) t.entries (length t.units) (length (t.units ++ no_body ∷ [])) y.name.name (length_push t.units no_body) h in
-    subst (λ l. OwnedIn (entries_of_tasks t.tasks ++ []) l (t.entries ++ protected_entry y.name.name (length t.units) ∷ []) (length (t.units ++ no_body ∷ []))) (added_last (entries_of_objects t.objects) o.entries (length t.entries)) new
+    let formals = length (objects.operation_formals y.formals o.own (objects.further_out o outer)).profile in
+    let new = object_entry_owned (entries_of_tasks t.tasks ++ []) (entries_of_objects t.objects ++ o.entries) t.entries (length t.units) (length (t.units ++ no_body ∷ [])) y.name.name formals (length_push t.units no_body) h in
+    subst (λ l. OwnedIn (entries_of_tasks t.tasks ++ []) l (t.entries ++ protected_entry y.name.name formals (length t.units) ∷ []) (length (t.units ++ no_body ∷ []))) (added_last (entries_of_objects t.objects) o.entries (length t.entries)) new
 operation_added number is_private (plain.procedure_operation i fs) outer o h = unit_more [] o.entries (objects.operation_formals fs o.own (objects.further_out o outer)).profile o.tables h
 operation_added number is_private (plain.function_operation i fs mark) outer o h = unit_more [] o.entries (objects.function_signature fs mark o.own (objects.further_out o outer)).0 o.tables h
 
@@ -293,7 +294,7 @@ none_awaited None t h = task_more [] t h
 none_awaited (Some a) t h = h
 
 object_owned : (found : Option AwaitedObject) (i : Ident) (t : Tables) → Owned t → Owned (objects.object_tables found i t)
-object_owned None i t h = object_more i.name [] t h
+object_owned None i t h = object_more i.name 0 [] t h
 object_owned (Some o) i t h = h
 
 kept_owned : (found : Option PartKind) (t : Tables) → Owned t → Owned (operations.operation_kept found t)
@@ -411,7 +412,7 @@ mutual
       let number = length t.objects in
       let first = objects.declared_operations number operations n.regions (objects.no_parts i.name n t) in
       let x = objects.parts_declared i.name operations hidden n t in
-      object_more i.name x.entries x.tables (items_added number (objects.hidden_items hidden) n.regions first (operations_added number operations n.regions (objects.no_parts i.name n t) h))
+      object_more i.name x.own.level x.entries x.tables (items_added number (objects.hidden_items hidden) n.regions first (operations_added number operations n.regions (objects.no_parts i.name n t) h))
   declaration_owned (plain.protected_body at i inner last) n t h =
       let found = objects.object_awaited i n in
       let here : Place = objects.object_behind i n in

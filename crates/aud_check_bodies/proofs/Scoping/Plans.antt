@@ -68,4 +68,4 @@ module _ (plan : Plan) where
 
 -- what is known where these are the tables
 abbrev pub seen : Plan → List Entry → Tables → Known
-seen plan entries t = record { plan = plan; entries = entries; profiles = t.profiles; complete = true }
+seen plan entries t = record { plan = plan; entries = entries; profiles = t.profiles; entry_profiles = t.entry_profiles; complete = true }

@@ -1,10 +1,11 @@
 -- The typed program of a unit without faults uses what is elaborated, or there.
 use Rattle.std.proofs.Common.{◌≡◌, ◌+◌, ◌<◌, ◌≤◌, ℕ, zero, suc, Bool, false, List, [], ◌∷◌, ◌++◌, length, slice_index_or, map, arith, refl, sym, ap, subst}
+use Rattle.std.specs.List.{AllByRecursion}
 use Rattle.std.proofs.lemmas.List.{length-map, length-set, get_or-set_same, get_or-set_other}
 use Rattle.aud_syntax.specs.Plain as plain
 use Rattle.aud_typed.specs.Tree as tree
 use Rattle.aud_typed.specs.Tree.{Plan}
-use Rattle.aud_typed.specs.Why.Scoped.{Elaborated, Entry, no_entry, no_entry_plan, entry_of, BooleanScoped, BarriersScoped, UnitScoped, UnitsScoped, IsScoped}
+use Rattle.aud_typed.specs.Why.Scoped.{Elaborated, Entry, no_entry, no_entry_plan, entry_of, BooleanScoped, BarriersScoped, HasFormals, UnitScoped, UnitsScoped, IsScoped}
 use Rattle.aud_names.specs.Names.{Place, main_place}
 use Rattle.aud_names.specs.Rules.{program_named, right_name_at_end}
 use Rattle.aud_check_bodies.specs.Tables.{Tables, no_body, with_unit}
@@ -33,13 +34,18 @@ units_from plan entries (u ∷ us) (e ∷ es) long h = (h 0 (omega arith), units
 
 -- each barrier, by its entry's number
 barriers_from : (plan : Plan) (entries : List Entry) (es : List tree.EntryBody)
-    → ((n : ℕ) → n < length es → BooleanScoped plan (slice_index_or es n (tree.task_entry [])).barrier (entry_of entries (slice_index_or es n (tree.task_entry [])).unit).outer)
+    → ((n : ℕ) → n < length es → BooleanScoped plan (slice_index_or es n (tree.task_entry [] 0)).barrier (entry_of entries (slice_index_or es n (tree.task_entry [] 0)).unit).outer)
     → BarriersScoped plan entries (map tree.plan_of_entry es) (map (λ e. e.barrier) es)
 barriers_from plan entries [] h = tt
 barriers_from plan entries (e ∷ es) h = (h 0 (omega arith), barriers_from plan entries es (λ n lt. h (suc n) (omega (arith, lt))))
 
+-- and the formals of its body
+formals_from : (entries : List Entry) (es : List tree.EntryBody) → ((n : ℕ) → n < length es → HasFormals entries (tree.plan_of_entry (slice_index_or es n (tree.task_entry [] 0)))) → AllByRecursion (HasFormals entries) (map tree.plan_of_entry es)
+formals_from entries [] h = tt
+formals_from entries (e ∷ es) h = (h 0 (omega arith), formals_from entries es (λ n lt. h (suc n) (omega (arith, lt))))
+
 -- by their numbers
-planned_from : (es : List tree.EntryBody) (n : ℕ) → n < length es → slice_index_or (map tree.plan_of_entry es) n no_entry_plan ≡ tree.plan_of_entry (slice_index_or es n (tree.task_entry []))
+planned_from : (es : List tree.EntryBody) (n : ℕ) → n < length es → slice_index_or (map tree.plan_of_entry es) n no_entry_plan ≡ tree.plan_of_entry (slice_index_or es n (tree.task_entry [] 0))
 planned_from [] n lt = absurd (omega (arith, lt))
 planned_from (e ∷ es) zero lt = refl
 planned_from (e ∷ es) (suc n) lt = planned_from es n (omega (arith, lt))
@@ -63,7 +69,17 @@ typed_scoped (plain.unit context at name declarations b) q =
     let body = entered_scoped plan entries false declarations b nothing_around place main_tables [] inside refl in_plan ready stated.0 in
     let own : IsUnit plan entries unit.made 0 = (refl, body.0) in
     let each : (n : ℕ) → n < length last.units → UnitScoped plan entries (tree.unit_plan (unit_at n last)) (unit_at n last).body (entry_of entries n) = λ n lt. by plan entries o.tables unit.made n (omega (arith, lt, long)) own body.1.1 in
-    record { entries = entries; main = refl; units = units_from plan entries last.units entries (omega (arith, long, count)) each; barriers = barriers_from plan entries last.entries (body.1.3 (λ n lt. absurd (omega (arith, lt)))); objects = (entered_grows false declarations b nothing_around place main_tables).distinct tt; owned = typed_owned (plain.unit context at name declarations b); numbers = typed_numbers (plain.unit context at name declarations b) q }
+    let barred = body.1.3 (λ n lt. absurd (omega (arith, lt))) in
+    record {
+      entries = entries;
+      main = refl;
+      units = units_from plan entries last.units entries (omega (arith, long, count)) each;
+      barriers = barriers_from plan entries last.entries (λ n lt. (barred n lt).0);
+      formals = formals_from entries last.entries (λ n lt. (barred n lt).1);
+      objects = (entered_grows false declarations b nothing_around place main_tables).distinct tt;
+      owned = typed_owned (plain.unit context at name declarations b);
+      numbers = typed_numbers (plain.unit context at name declarations b) q;
+    }
   where
     by : (plan : Plan) (entries : List Entry) (t : Tables) (x : tree.UnitBody) (n : ℕ) → n < length t.units → IsUnit plan entries x 0 → ((k : ℕ) → 1 ≤ k → k < length t.units → IsUnit plan entries (unit_at k t) k) → IsUnit plan entries (unit_at n (with_unit 0 x t)) n
     by plan entries t x zero lt own others = subst (λ z. IsUnit plan entries z 0) (sym (get_or-set_same t.units 0 x no_body lt)) own

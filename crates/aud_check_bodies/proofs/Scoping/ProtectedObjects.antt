@@ -7,7 +7,7 @@ use Rattle.aud_syntax.specs.declared.tree.Ident.{Ident}
 use Rattle.aud_syntax.specs.Plain as plain
 use Rattle.aud_typed.specs.Tree as tree
 use Rattle.aud_typed.specs.Tree.{Plan}
-use Rattle.aud_typed.specs.Why.Scoped.{Scope, none_yet, AreAround, table, Elaborated, Entry, entry_of, entry_unit, no_object, EntriesLevel, AreDistinct, all_formals, BodyScoped, UnitScoped}
+use Rattle.aud_typed.specs.Why.Scoped.{Scope, none_yet, AreAround, table, Elaborated, Entry, entry_of, entry_unit, no_object, object_level, EntriesLevel, AreDistinct, all_formals, BodyScoped, UnitScoped}
 use Rattle.aud_names.specs.declared.awaited.AwaitedObject.{AwaitedObject}
 use Rattle.aud_names.specs.declared.awaited.AwaitedPart.{AwaitedPart}
 use Rattle.aud_names.specs.declared.names.Access.TheVariants.{Outside, Inside, InFunction}
@@ -47,15 +47,15 @@ use Rattle.aud_check_bodies.proofs.Scoping.Bodies.{counted_frame, entering_fine}
 
 module _ (plan : Plan) (entries : List Entry) where
   object_fine_with : (at : Pos) (i : Ident) (hidden : Option (List plain.PrivateItem)) (n : Place) (t : Tables) (outer : Scope) (full : Elaborated) (base : ℕ) (x : ObjectDeclared) → base ≤ length t.units → InBody (seen plan entries t) outer full n → InPart plan entries base (outer ++ full ∷ []) (waits_in (names.innermost n)) t
-      → Declaring plan entries base t n i.name (length t.objects) ((outer ++ full ∷ []) ++ elaborated x.own ∷ []) (outer ++ elaborated (names.innermost n) ∷ []) x → InPlan plan t (object_kept i.name x.entries x.tables) → AreDistinct x.entries → rules.declared_once i.name i.at (names.innermost n).symbols ≡ []
-      → DeclaredScoped (seen plan entries (object_kept i.name x.entries x.tables)) outer full n (objects.object_of_parts x at i (length t.objects) n).made
-      × InPart plan entries base (outer ++ full ∷ []) (waits_in (names.innermost (objects.object_of_parts x at i (length t.objects) n).made.place)) (object_kept i.name x.entries x.tables)
-      × Stay base t (object_kept i.name x.entries x.tables)
-      × (Barred plan entries t → Barred plan entries (object_kept i.name x.entries x.tables))
+      → Declaring plan entries base t n i.name (length t.objects) ((outer ++ full ∷ []) ++ elaborated x.own ∷ []) (outer ++ elaborated (names.innermost n) ∷ []) x → InPlan plan t (object_kept i.name x.own.level x.entries x.tables) → AreDistinct x.entries → rules.declared_once i.name i.at (names.innermost n).symbols ≡ []
+      → DeclaredScoped (seen plan entries (object_kept i.name x.own.level x.entries x.tables)) outer full n (objects.object_of_parts x at i (length t.objects) n).made
+      × InPart plan entries base (outer ++ full ∷ []) (waits_in (names.innermost (objects.object_of_parts x at i (length t.objects) n).made.place)) (object_kept i.name x.own.level x.entries x.tables)
+      × Stay base t (object_kept i.name x.own.level x.entries x.tables)
+      × (Barred plan entries t → Barred plan entries (object_kept i.name x.own.level x.entries x.tables))
   object_fine_with at i hidden n t outer full base x after inside part h p distinct once =
       let before : Region = names.innermost n in
       let number = length t.objects in
-      let u : Tables = object_kept i.name x.entries x.tables in
+      let u : Tables = object_kept i.name x.own.level x.entries x.tables in
       let scope : Scope = outer ++ full ∷ [] in
       let level = before.level + 1 in
       let qs = x.around.parts in
@@ -65,11 +65,18 @@ module _ (plan : Plan) (entries : List Entry) where
       let fresh : names.is_declared i.name before.symbols ≡ false = not_declared _ _ once in
       let declared_as : objects.with_object i number before ≡ objects.awaiting_object i number named = rw fresh in
       let last : objects.with_object_parts qs (objects.with_object i number before) ≡ new = ap (objects.with_object_parts qs) declared_as in
-      let kept = object_kept_grows i.name x.entries x.tables distinct in
+      let kept = object_kept_grows i.name x.own.level x.entries x.tables distinct in
       let grown = further {u = x.tables} h.grows kept in
       let later = body_grown plan entries t u outer full n grown inside in
+      let object : tree.ObjectPlan = record { name = i.name; level = x.own.level; entries = x.entries } in
+      let long = length_push x.tables.objects object in
+      let planned = p.objects number (omega (arith, long, h.grows.objects)) in
+      let same : length x.tables.objects ≡ number = h.count in
+      let own_plan : slice_index_or plan.objects number no_object ≡ object = planned.1 ∙ get_or_push x.tables.objects object no_object number same in
+      let leveled : object_level plan number ≡ level = ap (λ (z : tree.ObjectPlan). z.level) own_plan ∙ of_objects.own_level plan entries n number qs x.own h.own in
+      let deep : length (scope ++ elaborated x.own ∷ []) ≡ suc level = omega (arith, length_push scope (elaborated x.own), length_push outer full, inside.innermost.level) in
       let are : PartsAre plan entries base u (scope ++ elaborated x.own ∷ []) number qs = parts_grown plan entries base x.tables u (scope ++ elaborated x.own ∷ []) number qs kept h.are in
-      let own : RegionScoped (seen plan entries u) outer full named = symbol_scoped (seen plan entries u) outer full i.name (Protected number) before later.innermost in
+      let own : RegionScoped (seen plan entries u) outer full named = symbol_scoped (seen plan entries u) outer full i.name (Protected number) before (λ c z. omega (arith, leveled)) later.innermost in
       let region : RegionScoped (seen plan entries u) outer full new = record {
         level = own.level;
         symbols = own.symbols;
@@ -78,19 +85,14 @@ module _ (plan : Plan) (entries : List Entry) where
         entries = own.entries;
         parts = λ c e more enough.
             let reach : c ≡ true → AreAround (scope ++ elaborated x.own ∷ []) (outer ++ e ∷ []) = λ z. around_open scope (outer ++ e ∷ []) (elaborated x.own) (open_further outer full e (enough z)) in
-            both_parts (when c (seen plan entries u)) (outer ++ e ∷ []) before.parts qs (own.parts c e more enough) (parts_there plan entries base u (scope ++ elaborated x.own ∷ []) (outer ++ e ∷ []) c number qs reach h.its are);
+            both_parts (when c (seen plan entries u)) (outer ++ e ∷ []) before.parts qs (own.parts c e more enough) (parts_there plan entries base u (scope ++ elaborated x.own ∷ []) (outer ++ e ∷ []) c number qs reach (λ z. omega (arith, deep, leveled)) h.its are);
       } in
       let statement : tree.Statement = tree.declare_object at number x.values in
-      let object : tree.ObjectPlan = record { name = i.name; entries = x.entries } in
-      let long = length_push x.tables.objects object in
-      let planned = p.objects number (omega (arith, long, h.grows.objects)) in
-      let same : length x.tables.objects ≡ number = h.count in
-      let own_plan : slice_index_or plan.objects number no_object ≡ object = planned.1 ∙ get_or_push x.tables.objects object no_object number same in
-      let deep : length (scope ++ elaborated x.own ∷ []) ≡ suc (length (outer ++ elaborated before ∷ [])) = omega (arith, length_push scope (elaborated x.own), length_push outer full, length_push outer (elaborated before)) in
-      let levels : EntriesLevel plan entries number (outer ++ elaborated before ∷ []) = subst (λ (z : tree.ObjectPlan). AllByRecursion (λ k. length (entry_of entries (entry_unit plan k)).outer ≡ suc (length (outer ++ elaborated before ∷ []))) z.entries) (sym own_plan) (all_lengths plan entries (scope ++ elaborated x.own ∷ []) x.entries (suc (length (outer ++ elaborated before ∷ []))) deep h.levels) in
-      let elaborates : Elaborates (seen plan entries u) (outer ++ elaborated before ∷ []) (statement ∷ []) (outer ++ elaborated new ∷ []) = ((planned.0, h.values, levels), one_elaborated (seen plan entries u) outer full i.name (Protected number) before) in
+      let here : length (outer ++ elaborated before ∷ []) ≡ level = omega (arith, length_push outer (elaborated before), inside.innermost.level) in
+      let levels : EntriesLevel plan entries number (outer ++ elaborated before ∷ []) = subst (λ (z : tree.ObjectPlan). AllByRecursion (λ k. length (entry_of entries (entry_unit plan k)).outer ≡ suc (length (outer ++ elaborated before ∷ []))) z.entries) (sym own_plan) (all_lengths plan entries (scope ++ elaborated x.own ∷ []) x.entries (suc (length (outer ++ elaborated before ∷ []))) (omega (arith, deep, here)) h.levels) in
+      let elaborates : Elaborates (seen plan entries u) (outer ++ elaborated before ∷ []) (statement ∷ []) (outer ++ elaborated new ∷ []) = ((planned.0, omega (arith, leveled, here), h.values, levels), one_elaborated (seen plan entries u) outer full i.name (Protected number) before) in
       let frame : elaborated x.own ≡ own_frame number qs = ap elaborated h.own ∙ its_frame number level Outside qs (named_objects.object_frame n) refl refl refl in
-      let stays = part_with_object plan entries base scope (waits_in before) o qs t u grown refl (omega (arith, h.grows.objects, length_push x.tables.objects (record { name = i.name; entries = x.entries }))) h.its
+      let stays = part_with_object plan entries base scope (waits_in before) o qs t u grown refl (omega (arith, h.grows.objects, long)) h.its
       (subst (λ e. PartsAre plan entries base u (scope ++ e ∷ []) number qs) frame are) h.waits h.stays part in (
         subst (λ z. DeclaredScoped (seen plan entries u) outer full n (record { place = names.in_region z n; elaborations = statement ∷ [] })) (sym last)
             (others_stay (seen plan entries u) outer full n new (omega arith) later region, omega arith, elaborates, one_created (seen plan entries u) scope statement [] tt (none_created (seen plan entries u) scope)),
@@ -115,8 +117,8 @@ module _ (plan : Plan) (entries : List Entry) where
       let frames : Scope = scope ++ elaborated x.own ∷ [] in
       let items = objects.hidden_items hidden in
       let distinct = parts_distinct i.name operations hidden n t in
-      let kept = object_kept_grows i.name x.entries x.tables distinct in
-      let declared_in_plan = first_in_plan plan t x.tables (object_kept i.name x.entries x.tables) kept p in
+      let kept = object_kept_grows i.name x.own.level x.entries x.tables distinct in
+      let declared_in_plan = first_in_plan plan t x.tables (object_kept i.name x.own.level x.entries x.tables) kept p in
       let e1 = in_operations number operations n.regions none frames in
       let e2 = in_items number items n.regions first frames in
       let g1 = operations_grow number operations n.regions none in

@@ -7,7 +7,7 @@ use Rattle.aud_syntax.specs.Plain as plain
 use Rattle.aud_typed.specs.Tree as tree
 use Rattle.aud_typed.specs.declared.program.Variable.{Variable}
 use Rattle.aud_typed.specs.Tree.{Plan}
-use Rattle.aud_typed.specs.Why.Scoped.{Scope, none_yet, all_of_table, table, Entry, all_formals, entry_unit, IsTaskEntry, BodyScoped}
+use Rattle.aud_typed.specs.Why.Scoped.{Scope, Elaborated, none_yet, all_of_table, table, Entry, all_formals, entry_unit, formals_of, IsTaskEntry, BodyScoped}
 use Rattle.aud_names.specs.declared.names.NamedParameter.{NamedParameter}
 use Rattle.aud_names.specs.declared.names.Meaning.{Meaning}
 use Rattle.aud_names.specs.declared.names.Meaning.TheVariants as meaning
@@ -36,6 +36,7 @@ use Rattle.aud_check_bodies.proofs.Scoping.ConstructTables.{accepts_grow, altern
 use Rattle.aud_check_bodies.proofs.Scoping.Plans.{seen, first_in_plan, second_in_plan, entered_table}
 use Rattle.aud_check_bodies.proofs.Scoping.Entries.{in_accept, in_alternative, in_alternatives, in_otherwise, in_others, accept_is_counted, alternative_counted, alternatives_counted, others_counted, first_ready, second_ready}
 use Rattle.aud_check_bodies.proofs.Scoping.Units.{none_between, units_join, fits_grown}
+use Rattle.aud_check_bodies.proofs.Scoping.Objects.{fine_if, conform_length}
 use Rattle.aud_check_bodies.proofs.Scoping.Single.{entry_call_scoped, selected_scoped, delay_scoped, form_scoped, body_with_scoped, alternatives_scoped, part_scoped}
 use Rattle.aud_check_bodies.proofs.Scoping.Constructs.{StatementFine, StatementsFine, OthersFine, BodyFine, AcceptFine, DoingFine, AlternativeFine, AlternativesFine, OtherwiseFine}
 use Rattle.aud_check_bodies.proofs.Scoping.Bodies.{fits_table, counted_frame}
@@ -60,8 +61,17 @@ module _ (plan : Plan) (entries : List Entry) where
 
   accepted_there : (m : Option Meaning) (at : Pos) (given : List NamedParameter) (within : List ℕ) (n : Place) (t : Tables) (scope : Scope) → accepts.accepted_faults m at given within n t ≡ [] → VisibleScoped (seen plan entries t) scope m → IsTaskEntry plan (accepts.number_of (accepts.entry_meant m))
   accepted_there None at given within n t scope q h = cc
-  accepted_there (Some (meaning.Entry x)) at given within n t scope q h = (h.0, accepted_owner x.owner x.number (names.innermost n).own (not (accepts.is_accepted x.number within)) at (rules.formals_conform (rules.conform (entry_profile_of x.number t) given) at) (seen plan entries t) scope q h.1)
+  accepted_there (Some (meaning.Entry x)) at given within n t scope q h = (h.0.0, accepted_owner x.owner x.number (names.innermost n).own (not (accepts.is_accepted x.number within)) at (rules.formals_conform (rules.conform (entry_profile_of x.number t) given) at) (seen plan entries t) scope q h.1)
   accepted_there (Some m) at given within n t scope q h = let no = no_value (is_function m) at q in cc
+
+  -- and has that entry's formals
+  accepted_takes : (m : Option Meaning) (at : Pos) (given : List NamedParameter) (within : List ℕ) (n : Place) (t : Tables) (scope : Scope) → accepts.accepted_faults m at given within n t ≡ [] → VisibleScoped (seen plan entries t) scope m → length given ≡ formals_of plan (accepts.number_of (accepts.entry_meant m))
+  accepted_takes None at given within n t scope q h = cc
+  accepted_takes (Some (meaning.Entry x)) at given within n t scope q h =
+      let listed = entry_profile_of x.number t in
+      let conforms = (both_none (rules.accept_or_count_in_place (names.is_own x n && not (accepts.is_accepted x.number within)) at) (rules.formals_conform (rules.conform listed given) at) q).1 in
+      sym (conform_length listed given (fine_if _ _ conforms)) ∙ h.0.2
+  accepted_takes (Some m) at given within n t scope q h = let no = no_value (is_function m) at q in cc
 
   pub accept_fine : (at : Pos) (i : Ident) (fs : List plain.Formal) (x : plain.Doing) (around : Around) (n : Place) (t : Tables) (scope : Scope) → ((r : Region) (within : Around) → DoingFine plan entries x i r within n t scope) → AcceptFine plan entries (plain.accept at i fs x) around n t scope
   unfolding AcceptFine DoingFine
@@ -76,16 +86,19 @@ module _ (plan : Plan) (entries : List Entry) where
       let heads = both_none formals.faults accepted parts.0 in
       let formed = formals_scoped known scope none_yet fs (names.accept_frame n) n.regions heads.0 (accept_scoped known scope none_yet (names.next_frame n) (in_frame known scope none_yet n refl fits).innermost) in
       let begun : elaborated formals.region ≡ all_formals (length formals.profile) = counted_frame formals.region.names formals.region.cells (length formals.profile) formed.1 formed.2 in
-      let doing = f formals.region within (length formals.profile) formed.0 begun fits p r (both_none o.faults [] parts.1).0 in
+      let meant = names.visible i.name n in
+      let entry = accepts.number_of (accepts.entry_meant meant) in
+      let takes : length formals.profile ≡ formals_of plan entry = accepted_takes meant i.at formals.profile around.accepting n t scope heads.1 (sees.visible i.name) in
+      let doing = f formals.region within entry formed.0 (begun ∙ ap all_formals takes) fits p r (both_none o.faults [] parts.1).0 in
       ((accepted_there (names.visible i.name n) i.at formals.profile around.accepting n t scope heads.1 (sees.visible i.name), doing.0), doing.1)
 
   pub without_do_fine : (i : Ident) (region : Region) (around : Around) (n : Place) (t : Tables) (scope : Scope) → DoingFine plan entries plain.without_do i region around n t scope
   unfolding DoingFine
-  without_do_fine i region around n t scope = λ k h e fits p r q. (tt, none_between plan entries t)
+  without_do_fine i region around n t scope = λ entry h e fits p r q. (tt, none_between plan entries t)
 
   pub with_do_fine : (b : plain.Body) (i : Ident) (region : Region) (around : Around) (n : Place) (t : Tables) (scope : Scope) → ((m : Place) (u : Tables) (inner : Scope) → BodyFine plan entries b around m u inner) → DoingFine plan entries (plain.with_do b) i region around n t scope
   unfolding DoingFine BodyFine
-  with_do_fine b i region around n t scope f = λ k h e fits p r q.
+  with_do_fine b i region around n t scope f = λ entry h e fits p r q.
       let known = seen plan entries t in
       let place : Place = names.place_in region n.regions in
       let shown = regions.shown_names region.symbols in
@@ -98,10 +111,11 @@ module _ (plan : Plan) (entries : List Entry) where
       let fit = fits_table known scope none_yet place inside (omega arith) in
       let inner : Scope = scope ++ all_of_table shown ∷ [] in
       let body = f place tables inner fit (second_in_plan plan t tables o.tables (region_grows shown t) p) (record { even = r.even; even_entries = r.even_entries; long = r.long; each = r.each }) q1 in
-      let all : all_formals k ≡ all_of_table shown = sym e ∙ sym (all_elaborated known scope none_yet region h) in
-      let doing : BodyScoped plan entries (s.body_with [] b o.made) (all_formals k) (table plan (length t.regions)) scope =
-      subst (λ z. BodyScoped plan entries (s.body_with [] b o.made) (all_formals k) z scope) (sym entered) (body_with_scoped plan entries [] b o.made (all_formals k) shown scope tt (ap (λ z. scope ++ z ∷ []) all) tt body.0.0 body.0.1) in
-      ((k, doing), body.1)
+      let first : Elaborated = all_formals (formals_of plan entry) in
+      let all : first ≡ all_of_table shown = sym e ∙ sym (all_elaborated known scope none_yet region h) in
+      let doing : BodyScoped plan entries (s.body_with [] b o.made) first (table plan (length t.regions)) scope =
+      subst (λ z. BodyScoped plan entries (s.body_with [] b o.made) first z scope) (sym entered) (body_with_scoped plan entries [] b o.made first shown scope tt (ap (λ z. scope ++ z ∷ []) all) tt body.0.0 body.0.1) in
+      (doing, body.1)
 
   pub accept_alternative_fine : (x : plain.Accept) (ss : plain.MoreStatements) (guard : plain.MaybeExpression) (around : Around) (n : Place) (t : Tables) (scope : Scope)
       → ((u : Tables) → AcceptFine plan entries x around n u scope) → ((u : Tables) → OthersFine plan entries ss around n u scope) → AlternativeFine plan entries (plain.accept_alternative x ss) guard around n t scope

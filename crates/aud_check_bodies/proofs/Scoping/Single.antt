@@ -11,7 +11,7 @@ use Rattle.aud_typed.specs.declared.program.Subtype.{Subtype}
 use Rattle.aud_typed.specs.declared.program.Exception as exception
 use Rattle.aud_typed.specs.Tree as tree
 use Rattle.aud_typed.specs.Tree.{Plan}
-use Rattle.aud_typed.specs.Why.Scoped.{Scope, IsElaborated, AreElaborated, IntegerScoped, ReferenceScoped, BooleanScoped, CalleeScoped, IntoScoped, BodyAround, IsTaskEntry, DelayScoped, FormScoped, scope_after, AllThere, ArgumentsScoped, StatementScoped, PartScoped, HandlersScoped, DoingScoped, AlternativesScoped}
+use Rattle.aud_typed.specs.Why.Scoped.{Scope, IsElaborated, AreElaborated, IntegerScoped, ReferenceScoped, BooleanScoped, CalleeScoped, IntoScoped, BodyAround, CalledOutside, IsTaskEntry, entry_unit, formals_of, DelayScoped, FormScoped, scope_after, AllThere, ArgumentsScoped, StatementScoped, PartScoped, HandlersScoped, DoingScoped, AlternativesScoped}
 use Rattle.aud_names.specs.declared.names.Meaning.{Meaning}
 use Rattle.aud_names.specs.declared.names.Meaning.TheVariants.{Object, Exception, Builtin}
 use Rattle.aud_names.specs.declared.names.Entry as named_entry
@@ -37,7 +37,7 @@ use Rattle.aud_check_bodies.specs.Selects as selects
 use Rattle.aud_check_bodies.specs.Handlers as handlers
 use Rattle.aud_check_bodies.specs.Statements as s
 use Rattle.aud_check_bodies.specs.Statements.{TypedArm, TypedHandler}
-use Rattle.aud_check_bodies.proofs.Scoping.Names.{Known, IsCallable, IsOperation, IsEntry, IsEntryBody, OwnerScoped, MeaningScoped, VisibleScoped, Sees}
+use Rattle.aud_check_bodies.proofs.Scoping.Names.{Known, IsCallable, IsOperation, IsEntry, IsEntryBody, IsNamed, OwnerScoped, MeaningScoped, VisibleScoped, Sees}
 use Rattle.aud_check_bodies.proofs.Scoping.Expressions.{TypedScoped, EntityScoped, value_scoped, whole_scoped}
 use Rattle.std.proofs.Common.{◌≡◌, ℕ, Bool, true, false, List, [], ◌∷◌, ◌++◌, length, slice_index_or, Option, Some, None, refl, sym, ◌∙◌, subst}
 use Rattle.aud_typed.specs.Why.Scoped.{Scope, AllCreatedScoped, scope_behind, all_of_table, Elaborated, Entry, StatementScoped, PartScoped, HandlersScoped, BodyScoped}
@@ -62,7 +62,7 @@ abbrev pub HandlerScoped : Known → Scope → TypedHandler → Type 0
 HandlerScoped known scope h = AllThere known.plan h.choices × StatementScoped known.plan known.entries h.statements scope
 
 abbrev pub AcceptScoped : Known → Scope → accepts.TypedAccept → Type 0
-AcceptScoped known scope a = IsTaskEntry known.plan a.entry × DoingScoped known.plan known.entries a.doing scope
+AcceptScoped known scope a = IsTaskEntry known.plan a.entry × DoingScoped known.plan known.entries a.entry a.doing scope
 
 abbrev pub AlternativeScoped : Known → Scope → selects.TypedAlternative → Type 0
 AlternativeScoped known scope (selects.accepts guard a behind) = BooleanScoped known.plan guard scope × AcceptScoped known scope a × PartScoped known.plan known.entries behind scope
@@ -127,15 +127,15 @@ module _ (known : Known) (scope : Scope) where
 
   -- of an operation of an object
 
-  by_access_scoped : known.complete ≡ true → (inside : Bool) (x : Instance) (at : Pos) (c : tree.Calling) → IsElaborated x.variable scope → IsOperation known scope inside c.unit → length c.arguments ≡ length (slice_index_or known.profiles c.unit []) → ArgumentsScoped known.plan c.arguments scope → IntoScoped known.plan c.into scope
+  by_access_scoped : known.complete ≡ true → (inside : Bool) (x : Instance) (at : Pos) (c : tree.Calling) → IsElaborated x.variable scope → IsOperation known scope inside c.unit → IsNamed known inside x.variable c.unit → length c.arguments ≡ length (slice_index_or known.profiles c.unit []) → ArgumentsScoped known.plan c.arguments scope → IntoScoped known.plan c.into scope
       → IsStatement known scope (calls.by_access inside x at c)
-  by_access_scoped whole true x at c v h l i j = ((h.entered, l ∙ h.formals, h.outer whole, i, j), refl)
-  by_access_scoped whole false x at c v h l i j = ((v, (h.entered, l ∙ h.formals, h.outer whole, i, j)), refl)
+  by_access_scoped whole true x at c v h m l i j = ((h.entered, l ∙ h.formals, h.outer whole, i, j), refl)
+  by_access_scoped whole false x at c v h m l i j = ((v, (h.entered, l ∙ h.formals, h.outer whole, m whole, i, j)), refl)
 
   pub operation_called_scoped : known.complete ≡ true → (o : operation.Operation) (into : Option tree.Reference) (at : Pos) (xs : Option (List tree.Argument)) → MeaningScoped known scope (meaning.Operation o) → IntoScoped known.plan into scope
       → IfSome xs (λ ys. (length ys ≡ length (slice_index_or known.profiles o.unit [])) × ArgumentsScoped known.plan ys scope) → IsStatement known scope (calls.operation_called o into at xs)
   operation_called_scoped whole o into at None h j i = (tt, refl)
-  operation_called_scoped whole o into at (Some xs) h j i = by_access_scoped whole (names.is_inside o.instance.access) o.instance at (record { unit = o.unit; arguments = xs; into = into }) h.0 h.1 i.0 i.1 j
+  operation_called_scoped whole o into at (Some xs) h j i = by_access_scoped whole (names.is_inside o.instance.access) o.instance at (record { unit = o.unit; arguments = xs; into = into }) h.0 h.1 h.2 i.0 i.1 j
 
   -- the value of a function is assigned
   pub returned_scoped : known.complete ≡ true → (r : Option tree.Reference) (o : operation.Operation) (at : Pos) (xs : Option (List tree.Argument)) → MeaningScoped known scope (meaning.Operation o) → IfSome r (λ x. ReferenceScoped known.plan x scope)
@@ -147,34 +147,34 @@ module _ (known : Known) (scope : Scope) where
 
   abbrev pub WhoseScoped : ℕ → calls.Whose → Type 0
   WhoseScoped k calls.own_object = Unit {0}
-  WhoseScoped k (calls.another c) = CalleeScoped known.plan c scope × BodyAround known.plan known.entries c k scope
+  WhoseScoped k (calls.another c) = CalleeScoped known.plan c scope × BodyAround known.plan known.entries c k scope × CalledOutside known.plan known.entries c k
 
   abbrev pub CalledScoped : calls.EntryCalled → Type 0
-  CalledScoped c = IsEntry known c.entry × WhoseScoped c.entry c.whose × ArgumentsScoped known.plan c.arguments scope
+  CalledScoped c = IsEntry known c.entry × (length c.arguments ≡ formals_of known.plan c.entry) × WhoseScoped c.entry c.whose × ArgumentsScoped known.plan c.arguments scope
 
-  entry_call_to_scoped : (x : calls.Whose) (at : Pos) (k : ℕ) (xs : List tree.Argument) (form : tree.CallForm) (p q : tree.Part) → FormScoped known.plan form scope → PartScoped known.plan known.entries p scope → PartScoped known.plan known.entries q scope → IsEntry known k → WhoseScoped k x → ArgumentsScoped known.plan xs scope
+  entry_call_to_scoped : (x : calls.Whose) (at : Pos) (k : ℕ) (xs : List tree.Argument) (form : tree.CallForm) (p q : tree.Part) → FormScoped known.plan form scope → PartScoped known.plan known.entries p scope → PartScoped known.plan known.entries q scope → IsEntry known k → length xs ≡ formals_of known.plan k → WhoseScoped k x → ArgumentsScoped known.plan xs scope
       → IsStatement known scope (calls.entry_call_to x at k xs form p q)
-  entry_call_to_scoped calls.own_object at k xs form p q f h i n w c = ((c, f), refl)
-  entry_call_to_scoped (calls.another y) at k xs form p q f h i n w c = (((n, w.0, c, f, w.1), h, i), refl)
+  entry_call_to_scoped calls.own_object at k xs form p q f h i n l w c = ((c, f), refl)
+  entry_call_to_scoped (calls.another y) at k xs form p q f h i n l w c = (((n.0, l, w.0, c, f, w.1, w.2), h, i), refl)
 
   pub entry_call_scoped : (at : Pos) (form : tree.CallForm) (p q : tree.Part) (c : Option calls.EntryCalled) → FormScoped known.plan form scope → PartScoped known.plan known.entries p scope → PartScoped known.plan known.entries q scope → IfSome c CalledScoped → IsStatement known scope (calls.entry_call_of at form p q c)
   entry_call_scoped at form p q None f h i c = (tt, refl)
-  entry_call_scoped at form p q (Some x) f h i c = entry_call_to_scoped x.whose at x.entry x.arguments form p q f h i c.0 c.1 c.2
+  entry_call_scoped at form p q (Some x) f h i c = entry_call_to_scoped x.whose at x.entry x.arguments form p q f h i c.0 c.1 c.2 c.3
 
-  object_scoped : known.complete ≡ true → (inside : Bool) (x : Instance) (n : ℕ) → IsElaborated x.variable scope → IsEntryBody known scope n → WhoseScoped n (calls.called_object inside x)
-  object_scoped whole true x n v h = tt
-  object_scoped whole false x n v h = (v, (h.entered, h.outer whole))
+  object_scoped : known.complete ≡ true → (inside : Bool) (x : Instance) (n : ℕ) → IsElaborated x.variable scope → IsEntryBody known scope n → IsNamed known inside x.variable (entry_unit known.plan n) → WhoseScoped n (calls.called_object inside x)
+  object_scoped whole true x n v h m = tt
+  object_scoped whole false x n v h m = (v, (h.entered, h.outer whole), m whole)
 
   owner_scoped : known.complete ≡ true → (x : Owner) (n : ℕ) (t : Typed) → OwnerScoped known n x scope → TypedScoped known.plan scope t → IfSome (calls.called_owner x t) (WhoseScoped n)
-  owner_scoped whole (Single v) n t h i = h
-  owner_scoped whole (Element a) n (number k) h i = ((h.0, i), h.1)
+  owner_scoped whole (Single v) n t h i = (h.0, h.1, tt)
+  owner_scoped whole (Element a) n (number k) h i = ((h.0, i), h.1, tt)
   owner_scoped whole (Element a) n _ h i = tt
-  owner_scoped whole (owner.Object x) n t h i = object_scoped whole (names.is_inside x.access) x n h.0 h.1
+  owner_scoped whole (owner.Object x) n t h i = object_scoped whole (names.is_inside x.access) x n h.0 h.1 h.2
 
-  with_called : (n : ℕ) (t : Option calls.Whose) (xs : Option (List tree.Argument)) (k : ℕ) → IsEntry known n → IfSome t (WhoseScoped n) → IfSome xs (λ ys. (length ys ≡ k) × ArgumentsScoped known.plan ys scope) → IfSome (calls.called_with n t xs) CalledScoped
-  with_called n None xs k e h i = tt
-  with_called n (Some t) None k e h i = tt
-  with_called n (Some t) (Some xs) k e h i = (e, h, i.1)
+  with_called : (n : ℕ) (t : Option calls.Whose) (xs : Option (List tree.Argument)) (k : ℕ) → IsEntry known n → k ≡ formals_of known.plan n → IfSome t (WhoseScoped n) → IfSome xs (λ ys. (length ys ≡ k) × ArgumentsScoped known.plan ys scope) → IfSome (calls.called_with n t xs) CalledScoped
+  with_called n None xs k e l h i = tt
+  with_called n (Some t) None k e l h i = tt
+  with_called n (Some t) (Some xs) k e l h i = (e, i.0 ∙ l, h, i.1)
 
   -- alternatives
   pub alternatives_scoped : (xs : List selects.TypedAlternative) → AllByRecursion (AlternativeScoped known scope) xs → AlternativesScoped known.plan known.entries (selects.alternatives_of xs) scope
@@ -209,7 +209,7 @@ module _ (plan : Plan) (entries : List Entry) where
   -- what a call of an entry calls
   pub entry_called_scoped : (x : named_entry.Entry) (y : plain.Name) (n : Place) (t : Tables) (scope : Scope) → Sees (seen plan entries t) scope n → IsEntry (seen plan entries t) x.number × OwnerScoped (seen plan entries t) x.number x.owner scope → IfSome (calls.entry_called x y n t) (CalledScoped (seen plan entries t) scope)
   entry_called_scoped x y n t scope sees h =
-      with_called (seen plan entries t) scope x.number _ _ _ h.0 (owner_scoped (seen plan entries t) scope refl x.owner x.number _ h.1 (index x.owner)) (all_passed_scoped (seen plan entries t) scope n sees (entry_profile_of x.number t) (resolution.last_args y))
+      with_called (seen plan entries t) scope x.number _ _ _ h.0 h.0.2 (owner_scoped (seen plan entries t) scope refl x.owner x.number _ h.1 (index x.owner)) (all_passed_scoped (seen plan entries t) scope n sees (entry_profile_of x.number t) (resolution.last_args y))
     where
       index : (o : Owner) → TypedScoped plan scope (calls.index_checked o y n).typed
       index (Single v) = tt

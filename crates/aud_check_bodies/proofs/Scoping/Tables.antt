@@ -133,23 +133,23 @@ entry_added_grows e profile t = record {
   stay = λ n lt. refl;
   entry_profiles = refl;
   entries = length_push t.entries e;
-  planned = λ n lt. ap tree.plan_of_entry (get_or_append_left t.entries (e ∷ []) (tree.task_entry []) n lt);
+  planned = λ n lt. ap tree.plan_of_entry (get_or_append_left t.entries (e ∷ []) (tree.task_entry [] 0) n lt);
 }
 
 pub entry_grows : (name : List ℕ) (profile : List NamedParameter) (t : Tables) → Grows t (entry_kept name profile t)
-entry_grows name profile t = entry_added_grows (tree.task_entry name) profile t
+entry_grows name profile t = entry_added_grows (tree.task_entry name (length profile)) profile t
 
 -- a protected one has a unit besides
 pub protected_entry_grows : (name : List ℕ) (profile : List NamedParameter) (t : Tables) → Grows t (protected_entry_kept name profile t)
-protected_entry_grows name profile t = further {u = unit_kept [] t} (unit_grows [] t) (entry_added_grows (protected_entry name (length t.units)) profile (unit_kept [] t))
+protected_entry_grows name profile t = further {u = unit_kept [] t} (unit_grows [] t) (entry_added_grows (protected_entry name (length profile) (length t.units)) profile (unit_kept [] t))
 
 object_distinct : (os : List tree.ObjectPlan) (o : tree.ObjectPlan) → HaveDistinctEntries os → AreDistinct o.entries → HaveDistinctEntries (os ++ o ∷ [])
 object_distinct [] o h once = (once, tt)
 object_distinct (x ∷ os) o h once = (h.0, object_distinct os o h.1 once)
 
 -- none of its entries stands twice in the table
-pub object_kept_grows : (name : List ℕ) (numbers : List ℕ) (t : Tables) → AreDistinct numbers → Grows t (object_kept name numbers t)
-object_kept_grows name numbers t once = record {
+pub object_kept_grows : (name : List ℕ) (level : ℕ) (numbers : List ℕ) (t : Tables) → AreDistinct numbers → Grows t (object_kept name level numbers t)
+object_kept_grows name level numbers t once = record {
   more_regions = [];
   more_profiles = [];
   more_tasks = [];
@@ -159,9 +159,9 @@ object_kept_grows name numbers t once = record {
   tasks = sym (append-nil t.tasks);
   even = omega arith;
   exceptions = omega arith;
-  objects = omega (arith, length_push t.objects (record { name = name; entries = numbers }));
-  distinct = λ z. object_distinct t.objects (record { name = name; entries = numbers }) z once;
-  stay = λ n lt. get_or_append_left t.objects ((record { name = name; entries = numbers }) ∷ []) no_object n lt;
+  objects = omega (arith, length_push t.objects (record { name = name; level = level; entries = numbers }));
+  distinct = λ z. object_distinct t.objects (record { name = name; level = level; entries = numbers }) z once;
+  stay = λ n lt. get_or_append_left t.objects ((record { name = name; level = level; entries = numbers }) ∷ []) no_object n lt;
   entry_profiles = sym (append-nil t.entry_profiles);
   entries = omega arith;
   planned = λ n lt. refl;
@@ -173,8 +173,8 @@ barred_plan number b t n lt = elim (is_equal n number) [
   | inl e ↦
       let there : number < length t.entries = omega (arith, e, lt) in
       subst (λ k. tree.plan_of_entry (entry_at k (with_barrier number b t)) ≡ tree.plan_of_entry (entry_at k t)) (sym e)
-      (ap tree.plan_of_entry (get_or-set_same t.entries number (record (entry_at number t) { barrier = b }) (tree.task_entry []) there))
-  | inr ne ↦ ap tree.plan_of_entry (get_or-set_other t.entries number n (record (entry_at number t) { barrier = b }) (tree.task_entry []) ne)
+      (ap tree.plan_of_entry (get_or-set_same t.entries number (record (entry_at number t) { barrier = b }) (tree.task_entry [] 0) there))
+  | inr ne ↦ ap tree.plan_of_entry (get_or-set_other t.entries number n (record (entry_at number t) { barrier = b }) (tree.task_entry [] 0) ne)
 ]
 
 pub barrier_grows : (number : ℕ) (b : tree.BooleanExpression) (t : Tables) → Grows t (with_barrier number b t)

@@ -6,7 +6,7 @@ use Rattle.std.proofs.Common.{◌≡◌, ◌⊎◌, inl, inr, ◌+◌, ◌<◌, 
 use Rattle.std.proofs.lemmas.List.{length_push, length-set, append_assoc, get_or_append_left, get_or_push, get_or-set_same, get_or-set_other}
 use Rattle.aud_typed.specs.Tree as tree
 use Rattle.aud_typed.specs.Tree.{Plan}
-use Rattle.aud_typed.specs.Why.Scoped.{Scope, Elaborated, Entry, entry_of, UnitScoped, BooleanScoped}
+use Rattle.aud_typed.specs.Why.Scoped.{Scope, Elaborated, Entry, entry_of, UnitScoped, BooleanScoped, HasFormals}
 use Rattle.aud_names.specs.declared.names.NamedParameter.{NamedParameter}
 use Rattle.aud_names.specs.declared.awaited.Awaited.{Awaited}
 use Rattle.aud_names.specs.declared.awaited.AwaitedObject.{AwaitedObject}
@@ -18,7 +18,7 @@ use Rattle.aud_names.specs.Names.{Region, Place}
 use Rattle.aud_check_bodies.specs.Tables.{Tables, no_body, unit_kept, with_unit, entry_at, with_barrier}
 use Rattle.aud_check_bodies.specs.Tasks as tasks
 use Rattle.aud_check_bodies.specs.Objects as declared
-use Rattle.aud_check_bodies.proofs.Scoping.Names.{Fits, either, fits_later}
+use Rattle.aud_check_bodies.proofs.Scoping.Names.{Known, Fits, either, fits_later}
 use Rattle.aud_check_bodies.proofs.Scoping.Declarations.{InBody, Waiting, no_waiting, waits_in, both_none, body_later}
 use Rattle.aud_check_bodies.proofs.Scoping.Alike.{OfOthers, OfObject, own_frame, frame_stays, frame_begins, later_are_others}
 use Rattle.aud_check_bodies.proofs.Scoping.Operations.{PartsAre, parts_are_append, parts_grown, nat_eq_true}
@@ -223,9 +223,12 @@ module _ (plan : Plan) (entries : List Entry) where
   abbrev pub IsUnit : tree.UnitBody → ℕ → Type 0
   IsUnit u n = UnitScoped plan entries (tree.unit_plan u) u.body (entry_of entries n)
 
-  -- all barriers so far are evaluated where the frames are open that their entries' bodies see
+  -- all barriers so far are evaluated where the frames are open that their entries' bodies see, and these have the entries' formals
+  abbrev pub IsBarred : tree.EntryBody → Type 0
+  IsBarred e = BooleanScoped plan e.barrier (entry_of entries e.unit).outer × HasFormals entries (tree.plan_of_entry e)
+
   abbrev pub Barred : Tables → Type 0
-  Barred t = (n : ℕ) → n < length t.entries → BooleanScoped plan (entry_at n t).barrier (entry_of entries (entry_at n t).unit).outer
+  Barred t = (n : ℕ) → n < length t.entries → IsBarred (entry_at n t)
 
   -- the units that a construct declares; the others stay what they are
   abbrev pub Units : Tables → Tables → Type 0
@@ -247,15 +250,15 @@ module _ (plan : Plan) (entries : List Entry) where
   )
 
   -- an entry whose barrier is True
-  pub barred_push : (t u : Tables) (e : tree.EntryBody) → u.entries ≡ t.entries ++ e ∷ [] → e.barrier ≡ tree.truth true → Barred t → Barred u
-  barred_push t u e p q h = λ n lt. elim (is_before n (length t.entries)) [
+  pub barred_push : (t u : Tables) (e : tree.EntryBody) → u.entries ≡ t.entries ++ e ∷ [] → e.barrier ≡ tree.truth true → HasFormals entries (tree.plan_of_entry e) → Barred t → Barred u
+  barred_push t u e p q takes h = λ n lt. elim (is_before n (length t.entries)) [
     | inl within ↦
-        let same : entry_at n u ≡ entry_at n t = ap (λ l. slice_index_or l n (tree.task_entry [])) p ∙ get_or_append_left t.entries (e ∷ []) (tree.task_entry []) n within in
-        subst (λ (x : tree.EntryBody). BooleanScoped plan x.barrier (entry_of entries x.unit).outer) (sym same) (h n within)
+        let same : entry_at n u ≡ entry_at n t = ap (λ l. slice_index_or l n (tree.task_entry [] 0)) p ∙ get_or_append_left t.entries (e ∷ []) (tree.task_entry [] 0) n within in
+        subst IsBarred (sym same) (h n within)
     | inr past ↦
         let is : length t.entries ≡ n = omega (arith, past, lt, ap length p, length_push t.entries e) in
-        let last : entry_at n u ≡ e = ap (λ l. slice_index_or l n (tree.task_entry [])) p ∙ get_or_push t.entries e (tree.task_entry []) n is in
-        subst (λ (x : tree.EntryBody). BooleanScoped plan x.barrier (entry_of entries x.unit).outer) (sym last) (subst (λ x. BooleanScoped plan x (entry_of entries e.unit).outer) (sym q) tt)
+        let last : entry_at n u ≡ e = ap (λ l. slice_index_or l n (tree.task_entry [] 0)) p ∙ get_or_push t.entries e (tree.task_entry [] 0) n is in
+        subst IsBarred (sym last) (subst (λ x. BooleanScoped plan x (entry_of entries e.unit).outer) (sym q) tt, takes)
   ]
 
   -- a barrier is put in its place
@@ -266,17 +269,24 @@ module _ (plan : Plan) (entries : List Entry) where
       elim (is_equal n number) [
         | inl is ↦
             let there : number < length t.entries = omega (arith, is, lt, long) in
-            subst (λ k. BooleanScoped plan (entry_at k (with_barrier number b t)).barrier (entry_of entries (entry_at k (with_barrier number b t)).unit).outer) (sym is)
-            (subst (λ (x : tree.EntryBody). BooleanScoped plan x.barrier (entry_of entries x.unit).outer) (sym (get_or-set_same t.entries number e (tree.task_entry []) there)) i)
-        | inr ne ↦ subst (λ (x : tree.EntryBody). BooleanScoped plan x.barrier (entry_of entries x.unit).outer) (sym (get_or-set_other t.entries number n e (tree.task_entry []) ne)) (h n (omega (arith, lt, long)))
+            subst (λ k. IsBarred (entry_at k (with_barrier number b t))) (sym is) (subst IsBarred (sym (get_or-set_same t.entries number e (tree.task_entry [] 0) there)) (i, (h number there).1))
+        | inr ne ↦ subst IsBarred (sym (get_or-set_other t.entries number n e (tree.task_entry [] 0) ne)) (h n (omega (arith, lt, long)))
       ]
 
-  -- later tables know of more procedures
+  -- later tables know of more procedures and entries
+
+  abbrev knowing : List (List NamedParameter) → List (List NamedParameter) → Known
+  knowing of_units of_entries = record { plan = plan; entries = entries; profiles = of_units; entry_profiles = of_entries; complete = true }
+
   pub fits_grown : (t u : Tables) (scope : Scope) (n : Place) → Grows t u → Fits (seen plan entries t) scope n → Fits (seen plan entries u) scope n
-  fits_grown t u scope n g h = subst (λ l. Fits (record { plan = plan; entries = entries; profiles = l; complete = true }) scope n) (sym g.profiles) (fits_later (seen plan entries t) scope g.more_profiles n h)
+  fits_grown t u scope n g h =
+      subst (λ l. Fits (knowing l u.entry_profiles) scope n) (sym g.profiles)
+      (subst (λ l. Fits (knowing (t.profiles ++ g.more_profiles) l) scope n) (sym g.entry_profiles) (fits_later (seen plan entries t) scope g.more_profiles g.more_entry_profiles n h))
 
   pub body_grown : (t u : Tables) (outer : Scope) (full : Elaborated) (n : Place) → Grows t u → InBody (seen plan entries t) outer full n → InBody (seen plan entries u) outer full n
-  body_grown t u outer full n g h = subst (λ l. InBody (record { plan = plan; entries = entries; profiles = l; complete = true }) outer full n) (sym g.profiles) (body_later (seen plan entries t) outer full g.more_profiles n h)
+  body_grown t u outer full n g h =
+      subst (λ l. InBody (knowing l u.entry_profiles) outer full n) (sym g.profiles)
+      (subst (λ l. InBody (knowing (t.profiles ++ g.more_profiles) l) outer full n) (sym g.entry_profiles) (body_later (seen plan entries t) outer full g.more_profiles g.more_entry_profiles n h))
 
   -- a procedure's unit, and those of its body
   pub units_put : (profile : List NamedParameter) (t u : Tables) (x : tree.UnitBody) → IsUnit x (length t.units) → Units (unit_kept profile t) u → Units t (with_unit (length t.units) x u)

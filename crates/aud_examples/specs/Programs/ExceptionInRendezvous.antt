@@ -16,7 +16,7 @@ program = record {
     units = (unit_plan 0 0 false (at 1 1) (at 1 298) ∷ unit_plan 1 1 false (at 1 78) (at 1 215) ∷ []);
     tasks = (record { unit = 1; entries = (0 ∷ []) } ∷ []);
     objects = ([]);
-    entries = (record { name = (codes "E"); unit = 0 } ∷ []);
+    entries = (record { name = (codes "E"); formals = 1; unit = 0 } ∷ []);
     regions = ((record { name = (codes "V"); shown = as_whole } ∷ record { name = (codes "S"); shown = hidden 1 } ∷ []) ∷ (record { name = (codes ""); shown = hidden 1 } ∷ []) ∷ (record { name = (codes "X"); shown = as_whole } ∷ []) ∷ []);
     exceptions = ([]);
   };

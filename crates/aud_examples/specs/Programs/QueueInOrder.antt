@@ -14,7 +14,7 @@ program = record {
     units = (unit_plan 0 0 false (at 1 1) (at 1 302) ∷ unit_plan 1 1 false (at 1 75) (at 1 209) ∷ unit_plan 1 4 false (at 1 216) (at 1 246) ∷ unit_plan 1 5 false (at 1 253) (at 1 283) ∷ []);
     tasks = (record { unit = 1; entries = (0 ∷ []) } ∷ record { unit = 2; entries = ([]) } ∷ record { unit = 3; entries = ([]) } ∷ []);
     objects = ([]);
-    entries = (record { name = (codes "E"); unit = 0 } ∷ []);
+    entries = (record { name = (codes "E"); formals = 1; unit = 0 } ∷ []);
     regions = ((record { name = (codes "S"); shown = hidden 1 } ∷ record { name = (codes "A"); shown = hidden 1 } ∷ record { name = (codes "B"); shown = hidden 1 } ∷ []) ∷ (record { name = (codes ""); shown = hidden 1 } ∷ []) ∷ (record { name = (codes "N"); shown = as_whole } ∷ []) ∷ (record { name = (codes "N"); shown = as_whole } ∷ []) ∷ (record { name = (codes ""); shown = hidden 1 } ∷ []) ∷ (record { name = (codes ""); shown = hidden 1 } ∷ []) ∷ []);
     exceptions = ([]);
   };

@@ -15,7 +15,7 @@ program = record {
     units = (unit_plan 0 0 false (at 1 1) (at 1 285) ∷ unit_plan 1 1 false (at 1 111) (at 1 248) ∷ []);
     tasks = (record { unit = 1; entries = (0 ∷ 1 ∷ []) } ∷ []);
     objects = ([]);
-    entries = (record { name = (codes "A"); unit = 0 } ∷ record { name = (codes "B"); unit = 0 } ∷ []);
+    entries = (record { name = (codes "A"); formals = 1; unit = 0 } ∷ record { name = (codes "B"); formals = 1; unit = 0 } ∷ []);
     regions = ((record { name = (codes "S"); shown = hidden 1 } ∷ record { name = (codes "V"); shown = as_whole } ∷ []) ∷ (record { name = (codes ""); shown = hidden 1 } ∷ []) ∷ (record { name = (codes "N"); shown = as_whole } ∷ []) ∷ (record { name = (codes "N"); shown = as_whole } ∷ []) ∷ []);
     exceptions = ([]);
   };

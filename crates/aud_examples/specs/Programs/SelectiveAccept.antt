@@ -13,7 +13,7 @@ program = record {
     units = (unit_plan 0 0 false (at 1 1) (at 1 306) ∷ unit_plan 1 1 false (at 1 51) (at 1 247) ∷ unit_plan 1 6 false (at 1 262) (at 1 288) ∷ []);
     tasks = (record { unit = 1; entries = (0 ∷ 1 ∷ []) } ∷ record { unit = 2; entries = ([]) } ∷ []);
     objects = ([]);
-    entries = (record { name = (codes "A"); unit = 0 } ∷ record { name = (codes "B"); unit = 0 } ∷ []);
+    entries = (record { name = (codes "A"); formals = 0; unit = 0 } ∷ record { name = (codes "B"); formals = 0; unit = 0 } ∷ []);
     regions = ((record { name = (codes "S"); shown = hidden 1 } ∷ record { name = (codes "P"); shown = hidden 1 } ∷ []) ∷ (record { name = (codes ""); shown = hidden 1 } ∷ []) ∷ ([]) ∷ ([]) ∷ ([]) ∷ ([]) ∷ (record { name = (codes ""); shown = hidden 1 } ∷ []) ∷ []);
     exceptions = ([]);
   };

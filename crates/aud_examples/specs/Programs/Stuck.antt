@@ -12,7 +12,7 @@ program = record {
     units = (unit_plan 0 0 false (at 1 1) (at 1 166) ∷ unit_plan 1 1 false (at 1 68) (at 1 104) ∷ unit_plan 1 3 false (at 1 111) (at 1 147) ∷ []);
     tasks = (record { unit = 1; entries = (0 ∷ []) } ∷ record { unit = 2; entries = (1 ∷ []) } ∷ []);
     objects = ([]);
-    entries = (record { name = (codes "E"); unit = 0 } ∷ record { name = (codes "E"); unit = 0 } ∷ []);
+    entries = (record { name = (codes "E"); formals = 0; unit = 0 } ∷ record { name = (codes "E"); formals = 0; unit = 0 } ∷ []);
     regions = ((record { name = (codes "A"); shown = hidden 1 } ∷ record { name = (codes "B"); shown = hidden 1 } ∷ []) ∷ (record { name = (codes ""); shown = hidden 1 } ∷ []) ∷ ([]) ∷ (record { name = (codes ""); shown = hidden 1 } ∷ []) ∷ ([]) ∷ []);
     exceptions = ([]);
   };

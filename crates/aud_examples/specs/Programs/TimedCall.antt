@@ -12,7 +12,7 @@ program = record {
     units = (unit_plan 0 0 false (at 1 1) (at 1 166) ∷ unit_plan 1 1 false (at 1 42) (at 1 86) ∷ []);
     tasks = (record { unit = 1; entries = (0 ∷ []) } ∷ []);
     objects = ([]);
-    entries = (record { name = (codes "E"); unit = 0 } ∷ []);
+    entries = (record { name = (codes "E"); formals = 0; unit = 0 } ∷ []);
     regions = ((record { name = (codes "S"); shown = hidden 1 } ∷ []) ∷ (record { name = (codes ""); shown = hidden 1 } ∷ []) ∷ ([]) ∷ []);
     exceptions = ([]);
   };

@@ -4,7 +4,7 @@ use Rattle.std.proofs.lemmas.Bool.{cases_lt}
 use Rattle.aud_typed.specs.declared.program.Variable.{Variable}
 use Rattle.aud_typed.specs.declared.program.ArrayAt.{ArrayAt}
 use Rattle.aud_typed.specs.Tree.{IntegerExpression, number, variable, element, unary, binary, count, Reference, scalar, component, TaskName, single, indexed, BooleanExpression, truth, stored, negation, relation, comparison, logical, and_then, or_else, callable, terminated, ValueExpression, whole, boolean, TextExpression, literal, image, image_truth, join, new_line, DelayExpression, milliseconds, seconds, Argument, by_value, by_copy, CallForm, plainly, conditionally, timed, Callee, of_task, of_object, Statement, sequence, declare, declare_array, declare_tasks, declare_object, assign, put, if_then, while_loop, for_loop, exit, return_value, procedure_call, own_entry_call, operation_call, entry_call, delay, select, abort, Alternatives, no_alternatives, accepting, delaying, terminating, Plan, requeue}
-use Rattle.aud_typed.specs.Why.Scoped.{Elaborated, Scope, cells_at, IsElaborated, AreElaborated, IntegerScoped, ReferenceScoped, TaskScoped, AllTasksScoped, BooleanScoped, ValueScoped, ArgumentScoped, ArgumentsScoped, TextScoped, DelayScoped, FormScoped, CalleeScoped, IntoScoped, ComponentsScoped, own_number, in_innermost, declared_up_to, declared_with, scope_after, Entry, AreOpen, AreAround, StatementScoped, AlternativesScoped}
+use Rattle.aud_typed.specs.Why.Scoped.{Elaborated, Scope, cells_at, IsElaborated, AreElaborated, IntegerScoped, ReferenceScoped, TaskScoped, AllTasksScoped, BooleanScoped, ValueScoped, ArgumentScoped, ArgumentsScoped, TextScoped, DelayScoped, FormScoped, CalleeScoped, IntoScoped, ComponentsScoped, own_number, in_innermost, declared_up_to, declared_with, scope_after, Entry, AreOpen, StatementScoped, AlternativesScoped}
 use Rattle.aud_code.specs.Instruction.{Instruction}
 use Rattle.aud_code.specs.Frames.{IsWritten}
 use Rattle.aud_code.specs.Seen.{ArrayOpen, Fewer, OutSees}
@@ -60,12 +60,6 @@ pub open_long : (es scope : Scope) → AreOpen es scope → length es ≤ length
 open_long [] scope h = omega arith
 open_long (e ∷ es) [] h = absurd h
 open_long (e ∷ es) (x ∷ xs) h = let l = open_long es xs h.1 in omega (arith, l)
-
-pub around_long : (es scope : Scope) → AreAround es scope → length es ≤ suc (length scope)
-around_long [] scope h = absurd h
-around_long (own ∷ []) scope h = omega arith
-around_long (e ∷ x ∷ es) [] h = absurd h
-around_long (e ∷ x ∷ es) (y ∷ ys) h = let l = around_long (x ∷ es) ys h.1 in omega (arith, l)
 
 -- Variables of open frames.
 
@@ -213,11 +207,11 @@ module _ (scope : Scope) where
     statement_open (for_loop f a b s) h = both M (integer_code a) _ (integer_open plan scope a h.0) (integer_open plan scope b h.1)
     statement_open (exit at n e) h = condition_open plan scope e h
     statement_open (procedure_call at c) h = both M (into_code c.into) _ (into_open plan scope c.into h.4) (arguments_open plan scope 0 c.arguments h.3)
-    statement_open (declare_object at n es) h = components_open plan scope es own_number h.1
+    statement_open (declare_object at n es) h = components_open plan scope es own_number h.2
     statement_open (return_value at e) h = value_open plan scope e h
     statement_open (own_entry_call at es form) h = called_open plan scope es form h.0 h.1
-    statement_open (operation_call at v c) h = both M (into_code c.into) _ (into_open plan scope c.into h.1.4) (arguments_open plan scope 0 c.arguments h.1.3)
-    statement_open (entry_call at c p q) h = call_open plan scope c.callee c.arguments c.form h.0.1 h.0.2 h.0.3
+    statement_open (operation_call at v c) h = both M (into_code c.into) _ (into_open plan scope c.into h.1.5) (arguments_open plan scope 0 c.arguments h.1.4)
+    statement_open (entry_call at c p q) h = call_open plan scope c.callee c.arguments c.form h.0.2 h.0.3 h.0.4
     statement_open (delay at e) h = delay_open plan scope e h
     statement_open (select at offered p) h = both M (guards_code 1 offered) _ (guards_open 1 offered h.0) (tt, delays_open 1 offered h.0)
     statement_open (abort at ts) h = tasks_open plan scope ts h

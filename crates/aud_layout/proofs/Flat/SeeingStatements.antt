@@ -1,10 +1,10 @@
 -- The lines of each part of a scoped program see the frames that the table has there.
-use Rattle.std.proofs.Common.{◌≡◌, inl, ℕ, zero, suc, ◌+◌, ◌≤◌, ◌<◌, List, [], ◌∷◌, ◌++◌, length, map, slice_get, slice_index_or, Bool, true, false, Option, Some, None, refl, sym, ap, ◌∙◌, subst, arith}
+use Rattle.std.proofs.Common.{◌≡◌, ◌⊎◌, inl, ℕ, zero, suc, ◌+◌, ◌≤◌, ◌<◌, List, [], ◌∷◌, ◌++◌, length, map, slice_get, slice_index_or, Bool, true, false, Option, Some, None, refl, sym, ap, ◌∙◌, subst, arith}
 use Rattle.aud_text.specs.declared.place.Pos.{Pos}
 use Rattle.aud_typed.specs.declared.program.Variable.{Variable}
 use Rattle.aud_typed.specs.Tree as tree
 use Rattle.aud_typed.specs.Tree.{Statement, sequence, declare, declare_tasks, if_then, plain_loop, while_loop, for_loop, exit, return, return_value, block, procedure_call, operation_call, entry_call, accept, select, Part, nothing, some, Handlers, no_handlers, handler, Body, body, Doing, without_do, with_do, Alternatives, no_alternatives, accepting, delaying, terminating, Callee, of_task, of_object, CallForm, TaskPlan, EntryPlan, Plan, Program, requeue}
-use Rattle.aud_typed.specs.Why.Scoped.{Elaborated, Scope, scope_after, IsElaborated, CalleeScoped, BodyAround, entry_unit, no_entry_plan, all_formals, all_of_table, Entry, entry_of, no_task, task_of, table, CreatedScoped, AllCreatedScoped, StatementScoped, PartScoped, DoingScoped, AlternativesScoped, HandlersScoped, BodyScoped, none_yet}
+use Rattle.aud_typed.specs.Why.Scoped.{Elaborated, Scope, scope_after, IsElaborated, CalleeScoped, NamedOutside, NamedInside, CalledOutside, CalledAgain, entry_unit, formals_of, no_entry_plan, all_formals, all_of_table, Entry, entry_of, no_task, task_of, table, CreatedScoped, AllCreatedScoped, StatementScoped, PartScoped, DoingScoped, AlternativesScoped, HandlersScoped, BodyScoped, none_yet}
 use Rattle.aud_meaning.specs.Parts as parts
 use Rattle.aud_meaning.specs.declared.state.Construct.{Construct}
 use Rattle.aud_meaning.specs.declared.state.OpenAccept.{OpenAccept}
@@ -13,7 +13,7 @@ use Rattle.aud_code.specs.Places.{Way}
 use Rattle.aud_code.specs.Instruction.{Ending, Accept, Select}
 use Rattle.aud_code.specs.Flat.{Does, start_at}
 use Rattle.aud_code.specs.Frames.{found, opener, Found, EachOpened}
-use Rattle.aud_code.specs.Seen.{inside, Fewer, WaysSee, BodiesSee, DoingSees, OpenedSees, WaySees, WithinSees, OutSees, BodySees, BarrierSees, EndingSees, LastSees}
+use Rattle.aud_code.specs.Seen.{inside, Fewer, WaysSee, BodiesSee, DoingSees, OpenedSees, WaySees, WithinSees, OutSees, BodySees, OperationSees, BarrierSees, BarrierSeesAgain, EndingSees, LastSees}
 use Rattle.aud_scoped.specs.Declares.{StatementDeclares, PartDeclares, HandlersDeclare, BodyDeclares, DoingDeclares, OfferedDeclare}
 use Rattle.aud_layout.specs.Layout.{one_line, Line, Around, line, in_loop, in_for, in_block, in_call, around_out, ways_count, statement_size, part_size, handlers_size, body_size, doing_size, offered_size, main_size, end_place, stubs, stubs_of, end_line, part_place, doing_place, parts_from, bodies_from, statement_code, part_code, handlers_code, body_code, doing_code, offered_code, code_of}
 use Rattle.aud_layout.specs.Assembly as assembly
@@ -23,7 +23,7 @@ use Rattle.aud_layout.specs.Opened.{body_of, task_bodies, frames_before, barrier
 use Rattle.aud_layout.proofs.Standing.Places.{length-statement, length-part, length-handlers, length-body, length-doing, length-offered}
 use Rattle.aud_layout.proofs.Standing.Sizes.{count-block, last_is}
 use Rattle.aud_layout.proofs.Flat.Frames.{found_is}
-use Rattle.aud_layout.proofs.Flat.Numbers.{is_written, same_there, one_out, after_long, one_longer, open_long, around_long, variable_open, StepOpen, names_open}
+use Rattle.aud_layout.proofs.Flat.Numbers.{is_written, same_there, one_out, after_long, one_longer, open_long, variable_open, StepOpen, names_open}
 use Rattle.aud_layout.proofs.Flat.Opening.{NoAccepts, call_has_none, requeue_has_none, each_any, select_opened}
 use Rattle.aud_layout.proofs.Flat.Seeing.{lines, Stands, front, back, tail, stands_moved, Here, here_on, here_inside, all_written, first_written, statement_begins, part_begins, guards_see, body_stands, body_begins, body_ends, doing_begins, offer_stands, offers_begin, WaysOut, AroundSees, InsideSees, within_inside, exit_sees, loop_sees, for_sees, stubs_see}
 
@@ -105,30 +105,36 @@ module _ (program : Program) (seen : List ℕ) (base : ℕ) (entries : List Entr
       let m = length (entry_of entries u).outer in
       is_written (slice_get seen (start_at (flat_program program) u)) (suc m) (λ k. (1 ≤ k) × (k ≤ suc n)) (calls u there) (omega arith, omega (arith, long, e))
 
-  -- an operation's body, around whose object so many are open
-  entered_around : (u n : ℕ) (scope : Scope) → length scope ≡ n → u < length entries → length (entry_of entries u).outer ≤ suc (length scope) → BodySees seen (suc n) (start_at (flat_program program) u)
-  entered_around u n scope e there long =
-      let m = length (entry_of entries u).outer in
-      is_written (slice_get seen (start_at (flat_program program) u)) (suc m) (λ k. (1 ≤ k) × (k ≤ suc (suc n))) (calls u there) (omega arith, omega (arith, long, e))
+  -- an operation's body, whose object is named from outside
+  operation_entered : (v : Variable) (u : ℕ) → u < length entries → NamedOutside v (entry_of entries u).outer → OperationSees seen v (start_at (flat_program program) u)
+  operation_entered v u there named =
+      is_written (slice_get seen (start_at (flat_program program) u)) (suc (length (entry_of entries u).outer)) (λ k. k ≡ v.level + 3) (calls u there) (omega (arith, named))
 
   object_open : (v : Variable) (n : ℕ) (scope : Scope) → length scope ≡ n → IsElaborated v scope → v.level < n
   object_open v n scope e h = subst (λ m. v.level < m) e (variable_open v scope h)
 
-  -- the barrier of an entry that is called, around whose object so many are open
-  asked_around : (entry n : ℕ) (scope : Scope) → length scope ≡ n → entry < length program.plan.entries → length (entry_of entries (entry_unit program.plan entry)).outer ≤ suc (length scope) → BarrierSees B n entry
-  asked_around entry n scope e there long =
-      let u = entry_unit program.plan entry in
-      is_written (slice_get B entry) (parts.unit_of program.plan u).level (λ k. k ≤ suc n) (frames_there program.plan program.plan.entries entry there) (omega (arith, long, e, levels u))
+  -- the barrier of an entry that is called
 
-  call_sees : (c : Callee) (entry : ℕ) (form : CallForm) (n : ℕ) (scope : Scope) → length scope ≡ n → entry < length program.plan.entries → CalleeScoped program.plan c scope → BodyAround program.plan entries c entry scope → EndingSees (flat_program program) T B seen (call_end c entry form) n
-  call_sees (of_task t) entry form n scope e there h around = tt
-  call_sees (of_object v) entry form n scope e there h around =
-      (object_open v n scope e h, asked_around entry n scope e there (around_long (entry_of entries (entry_unit program.plan entry)).outer scope around.1))
+  abbrev around_body : ℕ → Scope
+  around_body entry = (entry_of entries (entry_unit program.plan entry)).outer
 
-  requeue_sees : (c : Callee) (r : tree.Requeue) (n : ℕ) (scope : Scope) → length scope ≡ n → r.entry < length program.plan.entries → CalleeScoped program.plan c scope → BodyAround program.plan entries c r.entry scope → EndingSees (flat_program program) T B seen (requeue_end c r) n
-  requeue_sees (of_task t) r n scope e there h around = tt
-  requeue_sees (of_object v) r n scope e there h around =
-      (object_open v n scope e h, asked_around r.entry n scope e there (around_long (entry_of entries (entry_unit program.plan r.entry)).outer scope around.1))
+  barrier_frames_there : (entry : ℕ) → entry < length program.plan.entries → slice_get B entry ≡ Some (length (around_body entry))
+  barrier_frames_there entry there = frames_there program.plan program.plan.entries entry there ∙ ap Some (levels (entry_unit program.plan entry))
+
+  asked : (v : Variable) (entry : ℕ) → entry < length program.plan.entries → NamedOutside v (around_body entry) → BarrierSees B v entry
+  asked v entry there named = is_written (slice_get B entry) (length (around_body entry)) (λ k. k ≡ v.level + 2) (barrier_frames_there entry there) named
+
+  asked_again : (v : Variable) (entry : ℕ) → entry < length program.plan.entries → NamedOutside v (around_body entry) ⊎ NamedInside v (around_body entry) → BarrierSeesAgain B v entry
+  asked_again v entry there named =
+      is_written (slice_get B entry) (length (around_body entry)) (λ k. (k ≡ v.level + 2) ⊎ ((v.index ≡ 0) × (k ≡ v.level + 1))) (barrier_frames_there entry there) named
+
+  call_sees : (c : Callee) (entry : ℕ) (form : CallForm) (n : ℕ) (scope : Scope) → length scope ≡ n → entry < length program.plan.entries → CalleeScoped program.plan c scope → CalledOutside program.plan entries c entry → EndingSees (flat_program program) T B seen (call_end c entry form) n
+  call_sees (of_task t) entry form n scope e there h named = tt
+  call_sees (of_object v) entry form n scope e there h named = (object_open v n scope e h, asked v entry there named)
+
+  requeue_sees : (c : Callee) (r : tree.Requeue) (n : ℕ) (scope : Scope) → length scope ≡ n → r.entry < length program.plan.entries → CalleeScoped program.plan c scope → CalledAgain program.plan entries c r.entry → EndingSees (flat_program program) T B seen (requeue_end c r) n
+  requeue_sees (of_task t) r n scope e there h named = tt
+  requeue_sees (of_object v) r n scope e there h named = (object_open v n scope e h, asked_again v r.entry there named)
 
   ending_sees : (s : Statement) (n : ℕ) (declares : Bool) (scope : Scope) → length scope ≡ n → Scoped s scope → StatementDeclares declares s → Creates declares s n → EndingSees (flat_program program) T B seen (ending_of s) n
   ending_sees (declare_tasks at ts) n declares scope e sc dc cr =
@@ -136,9 +142,9 @@ module _ (program : Program) (seen : List ℕ) (base : ℕ) (entries : List Entr
       let u = (task_of program.plan ts).unit in
       subst (λ k. BodySees seen n (start_at (flat_program program) k)) (sym (unit_of program.plan.tasks ts.task_type)) (entered u n c.0 c.1 c.2.1 (open_long (entry_of entries u).outer c.0 c.2.3))
   ending_sees (procedure_call at c) n declares scope e sc dc cr = entered c.unit n scope e sc.0 (open_long (entry_of entries c.unit).outer scope sc.2)
-  ending_sees (operation_call at v c) n declares scope e sc dc cr = (object_open v n scope e sc.0, entered_around c.unit n scope e sc.1.0 (around_long (entry_of entries c.unit).outer scope sc.1.2))
-  ending_sees (entry_call at c p q) n declares scope e sc dc cr = call_sees c.callee c.entry c.form n scope e sc.0.0 sc.0.1 sc.0.4
-  ending_sees (requeue at r) n declares scope e sc dc cr = requeue_sees r.callee r n scope e sc.0 sc.1 sc.2
+  ending_sees (operation_call at v c) n declares scope e sc dc cr = (object_open v n scope e sc.0, operation_entered v c.unit sc.1.0 sc.1.3)
+  ending_sees (entry_call at c p q) n declares scope e sc dc cr = call_sees c.callee c.entry c.form n scope e sc.0.0 sc.0.2 sc.0.6
+  ending_sees (requeue at r) n declares scope e sc dc cr = requeue_sees r.callee r n scope e sc.0 sc.1 sc.3
   ending_sees s n declares scope e sc dc cr = tt
 
   -- a statement's own line, with its ways and what accepts do
@@ -299,7 +305,7 @@ module _ (program : Program) (seen : List ℕ) (base : ℕ) (entries : List Entr
         let o = opens (accept pos m d) (next ∷ []) (doing_place d (suc at) next ∷ []) None a _ at n st here i in
         let does = doing_begins program T seen base d at (suc at) next a.out n rest (omega arith) o.own k in
         one_and (line_with (accept pos m d) (next ∷ []) (doing_place d (suc at) next ∷ []) None a _ at n declares scope e sc dc cr st here (k, tt) (does, tt) tt tt i.out)
-        (doing_sees d at (suc at) next a.out n scope e sc.1 dc (omega arith) rest k o)
+        (doing_sees d m at (suc at) next a.out n scope e sc.1 dc (omega arith) rest k o)
     statement_sees (select pos offered p) at next a n declares scope e sc dc cr st here k i =
         let w = ways_count a in
         let size = offered_size offered w in
@@ -369,15 +375,15 @@ module _ (program : Program) (seen : List ℕ) (base : ℕ) (entries : List Entr
         (one_and (record { frames = m; written = all_written program T seen base _ _ _ m ended here_end; names = tt; opens = tt; within = here_end.within; last = ends end }) no_lines))))
 
     -- what an accept does, whose step stands at the place opener
-    doing_sees : (d : Doing) (opener at next out n : ℕ) (scope : Scope) → length scope ≡ n → DoingScoped program.plan entries d scope → DoingDeclares d → opener < at → At at (doing_code d opener at next out) → Fewer seen 0 n (G next) → Opens opener n out → EachSeen program seen at (doing_code d opener at next out)
-    doing_sees without_do opener at next out n scope e sc dc before st k o = no_lines
-    doing_sees (with_do m b) opener at next out n scope e sc dc before st k o =
+    doing_sees : (d : Doing) (entry opener at next out n : ℕ) (scope : Scope) → length scope ≡ n → DoingScoped program.plan entries entry d scope → DoingDeclares d → opener < at → At at (doing_code d opener at next out) → Fewer seen 0 n (G next) → Opens opener n out → EachSeen program seen at (doing_code d opener at next out)
+    doing_sees without_do entry opener at next out n scope e sc dc before st k o = no_lines
+    doing_sees (with_do m b) entry opener at next out n scope e sc dc before st k o =
         let last = end_place b at 1 in
         let inner = in_call (Some opener) last in
         let here = here_inside program T seen base opener at n before o.own in
         let around : InsideSees program T seen base inner (suc n) = record { exits = tt; back = same_there seen (G last) (suc n) (body_ends program T seen base construct.Accept b at next out inner (suc n) st here) } in
         let ends : EndSees construct.Accept next out (Some opener) (suc n) = λ p. (k, o.behind) in
-        body_sees construct.Accept b at next out inner n (all_formals sc.0) (table program.plan m) scope e sc.1 dc st here around ends
+        body_sees construct.Accept b at next out inner n (all_formals (formals_of program.plan entry)) (table program.plan m) scope e sc dc st here around ends
 
     offered_see : (x : Alternatives) (opener at next : ℕ) (a : Around) (n : ℕ) (scope : Scope) → length scope ≡ n → AlternativesScoped program.plan entries x scope → OfferedDeclare x → opener < at → At at (offered_code x opener at next a) → Is a.within at n → Fewer seen 0 n (G next) → Around_ a n → Opens opener n a.out → EachSeen program seen at (offered_code x opener at next a)
     offered_see no_alternatives opener at next a n scope e sc dc before st here k i o = no_lines
@@ -389,7 +395,7 @@ module _ (program : Program) (seen : List ℕ) (base : ℕ) (entries : List Entr
         let further = here_on program T seen base a.within at later n (omega arith) here in
         let to = part_begins program T seen base p after next a n it.part there k in
         joined program seen _ _ at _ (length-doing d opener at (part_place p after next) a.out)
-        (doing_sees d opener at (part_place p after next) a.out n scope e sc.2 dc.0 before it.doing to o)
+        (doing_sees d m opener at (part_place p after next) a.out n scope e sc.2 dc.0 before it.doing to o)
         (joined program seen _ _ after _ (length-part p after next a)
         (part_sees p after next a n false scope e sc.3 dc.1.0 (λ t. absurd cc) it.part there k i)
         (offered_see more opener later next a n scope e sc.4 dc.1.1 (omega (arith, before)) it.others further k i o))

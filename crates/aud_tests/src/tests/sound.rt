@@ -161,6 +161,7 @@ fn calls(alloc: Global, level: usize, frames: usize) -> Result<bool, AllocError>
 #[test]
 fn asks_barriers_of_open_frames(rt: HostRuntime) -> Result<(), AllocError> {
     assert!(rt; calls(rt.alloc(), 1, 2)?);
+    assert!(rt; !calls(rt.alloc(), 0, 1)?);
     assert!(rt; !calls(rt.alloc(), 2, 2)?);
     assert!(rt; !calls(rt.alloc(), 2, 3)?);
     Ok(())

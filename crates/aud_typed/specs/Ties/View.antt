@@ -260,14 +260,14 @@ abbrev pub plain_task_type : TaskType → tree.TaskPlan
 plain_task_type t = record { unit = t.unit; entries = t.entries.items }
 
 abbrev pub plain_object : ProtectedObject → tree.ObjectPlan
-plain_object o = record { name = o.name; entries = o.entries.items }
+plain_object o = record { name = o.name; level = o.level; entries = o.entries.items }
 
-abbrev pub entry_with : List ℕ → Option EntryBody → tree.EntryBody
-entry_with name None = tree.task_entry name
-entry_with name (Some b) = record { name = name; unit = b.unit; barrier = plain_boolean b.barrier }
+abbrev pub entry_with : List ℕ → ℕ → Option EntryBody → tree.EntryBody
+entry_with name formals None = tree.task_entry name formals
+entry_with name formals (Some b) = record { name = name; formals = formals; unit = b.unit; barrier = plain_boolean b.barrier }
 
 abbrev pub plain_entry : Entry → tree.EntryBody
-plain_entry e = entry_with e.name e.body
+plain_entry e = entry_with e.name e.formals e.body
 
 abbrev pub plain_program : Program → tree.Program
 plain_program p = tree.program_of_units (record {

@@ -1,10 +1,11 @@
 -- Each variable that is read or assigned has been elaborated (RM 3.3.1, 8.3), and each number names an item: a table, exception, unit, type
 -- of tasks, object or entry that is there, or a loop around the exit that leaves it. Accepts and calls of tasks name entries of tasks, and
--- calls of objects entries of objects; each entry stands once, with one type of tasks or one object. That no statement declares tasks is
--- said beside it (`DeclaresInParts`). It is not said that a type of which no task is created has its body, that a call of an entry has as
--- many arguments as its accepts or its body have formals, nor that the object in the cell of a call is of the declaration that has the
--- operation or entry, or that the cell is of that declaration's level.
-use Rattle.std.specs.Prelude.{◌≡◌, ℕ, suc, ◌+◌, ◌-◌, max, ◌<◌, ◌≤◌, List, [], ◌∷◌, ◌++◌, length, slice_index_or, Option, None, Some, nat_eq, Bool, true, false, ◌||◌}
+-- calls of objects entries of objects; each entry stands once, with one type of tasks or one object. A call of an entry has as many
+-- arguments as each accept and the body of that have formals, and a call of an object names a cell of the frame that is innermost around
+-- the object's. That no statement declares tasks is said beside it (`DeclaresInParts`). It is not said that a type of which no task is
+-- created has its body, that a call that is made again has as many arguments as the entry has formals, nor that the object in the cell of
+-- a call is of the declaration that has the operation or entry.
+use Rattle.std.specs.Prelude.{◌≡◌, ◌⊎◌, ℕ, suc, ◌+◌, ◌-◌, max, ◌<◌, ◌≤◌, List, [], ◌∷◌, ◌++◌, length, slice_index_or, Option, None, Some, nat_eq, Bool, true, false, ◌||◌}
 use Rattle.std.specs.List.{AllByRecursion}
 use Rattle.aud_typed.specs.declared.program.Variable.{Variable}
 use Rattle.aud_typed.specs.declared.program.ArrayAt.{ArrayAt}
@@ -204,7 +205,11 @@ module _ (plan : Plan) where
 
 -- an entry
 abbrev pub no_entry_plan : EntryPlan
-no_entry_plan = record { name = []; unit = 0 }
+no_entry_plan = record { name = []; formals = 0; unit = 0 }
+
+-- how many formals it has
+abbrev pub formals_of : Plan → ℕ → ℕ
+formals_of plan n = (slice_index_or plan.entries n no_entry_plan).formals
 
 -- the body of a protected one
 abbrev pub entry_unit : Plan → ℕ → ℕ
@@ -223,7 +228,19 @@ no_task = record { unit = 0; entries = [] }
 
 -- an object
 abbrev pub no_object : ObjectPlan
-no_object = record { name = []; entries = [] }
+no_object = record { name = []; level = 0; entries = [] }
+
+-- how many frames are open around its own
+abbrev pub object_level : Plan → ℕ → ℕ
+object_level plan n = (slice_index_or plan.objects n no_object).level
+
+-- Where the body of an operation or entry sees these frames, the innermost is its object's. From outside the object is named by a cell of
+-- the next one; within its body it is named by the first cell of its own frame.
+abbrev pub NamedOutside : Variable → Scope → Type 0
+NamedOutside v outer = length outer ≡ v.level + 2
+
+abbrev pub NamedInside : Variable → Scope → Type 0
+NamedInside v outer = (v.index ≡ 0) × (length outer ≡ v.level + 1)
 
 abbrev pub task_of : Plan → Tasks → TaskPlan
 task_of plan ts = slice_index_or plan.tasks ts.task_type no_task
@@ -238,13 +255,14 @@ module _ (plan : Plan) (entries : List Entry) where
       × ArgumentsScoped plan c.arguments scope
       × IntoScoped plan c.into scope
 
-  -- an operation's call from outside its object: of a unit that is there, with as many arguments as it has formals, where the frames are
-  -- open that are around the object's
-  abbrev pub OperationScoped : Calling → Scope → Type 0
-  OperationScoped c scope =
+  -- an operation's call from outside its object, whose number is in the cell: of a unit that is there, with as many arguments as it has
+  -- formals, where the frames are open that are around the object's, of which the innermost has the cell
+  abbrev pub OperationScoped : Variable → Calling → Scope → Type 0
+  OperationScoped v c scope =
       (c.unit < length entries)
       × (length c.arguments ≡ (entry_of entries c.unit).formals)
       × AreAround (entry_of entries c.unit).outer scope
+      × NamedOutside v (entry_of entries c.unit).outer
       × ArgumentsScoped plan c.arguments scope
       × IntoScoped plan c.into scope
 
@@ -252,6 +270,15 @@ module _ (plan : Plan) (entries : List Entry) where
   abbrev pub BodyAround : Callee → ℕ → Scope → Type 0
   BodyAround (of_task t) entry scope = entry_unit plan entry ≡ 0
   BodyAround (of_object v) entry scope = (entry_unit plan entry < length entries) × AreAround (entry_of entries (entry_unit plan entry)).outer scope
+
+  -- an entry is called from outside its object; a requeue to it may stand within the object's body too
+  abbrev pub CalledOutside : Callee → ℕ → Type 0
+  CalledOutside (of_task t) entry = Unit {0}
+  CalledOutside (of_object v) entry = NamedOutside v (entry_of entries (entry_unit plan entry)).outer
+
+  abbrev pub CalledAgain : Callee → ℕ → Type 0
+  CalledAgain (of_task t) entry = Unit {0}
+  CalledAgain (of_object v) entry = NamedOutside v (entry_of entries (entry_unit plan entry)).outer ⊎ NamedInside v (entry_of entries (entry_unit plan entry)).outer
 
   -- tasks of a type that is there, and whose body is, where the frames that it sees are open: its own number is all that is elaborated
   -- in its own frame when it begins
@@ -276,13 +303,20 @@ module _ (plan : Plan) (entries : List Entry) where
   abbrev pub EntriesLevel : ℕ → Scope → Type 0
   EntriesLevel n scope = AllByRecursion (λ k. length (entry_of entries (entry_unit plan k)).outer ≡ suc (length scope)) (slice_index_or plan.objects n no_object).entries
 
-  -- of an entry that is there
+  -- of an entry that is there, with as many arguments as it has formals
   abbrev pub EntryCallScoped : EntryCall → Scope → Type 0
-  EntryCallScoped c scope = (c.entry < length plan.entries) × CalleeScoped plan c.callee scope × ArgumentsScoped plan c.arguments scope × FormScoped plan c.form scope × BodyAround c.callee c.entry scope
+  EntryCallScoped c scope =
+      (c.entry < length plan.entries)
+      × (length c.arguments ≡ formals_of plan c.entry)
+      × CalleeScoped plan c.callee scope
+      × ArgumentsScoped plan c.arguments scope
+      × FormScoped plan c.form scope
+      × BodyAround c.callee c.entry scope
+      × CalledOutside c.callee c.entry
 
   -- to an entry that is there
   abbrev pub RequeueScoped : Requeue → Scope → Type 0
-  RequeueScoped r scope = (r.entry < length plan.entries) × CalleeScoped plan r.callee scope × BodyAround r.callee r.entry scope
+  RequeueScoped r scope = (r.entry < length plan.entries) × CalleeScoped plan r.callee scope × BodyAround r.callee r.entry scope × CalledAgain r.callee r.entry
 
   abbrev mutual
     pub StatementScoped : Statement → Scope → Type 0
@@ -292,7 +326,7 @@ module _ (plan : Plan) (entries : List Entry) where
     StatementScoped (declare_array at t n) scope = Unit {0}
     -- what they see is asked where they begin
     StatementScoped (declare_tasks at ts) scope = Unit {0}
-    StatementScoped (declare_object at n es) scope = (n < length plan.objects) × ComponentsScoped plan es own_number scope × EntriesLevel n scope
+    StatementScoped (declare_object at n es) scope = (n < length plan.objects) × (object_level plan n ≡ length scope) × ComponentsScoped plan es own_number scope × EntriesLevel n scope
     StatementScoped (activated at) scope = Unit {0}
     StatementScoped (activate at) scope = Unit {0}
     StatementScoped (null at) scope = Unit {0}
@@ -310,10 +344,10 @@ module _ (plan : Plan) (entries : List Entry) where
     StatementScoped (block at n b) scope = BodyScoped b none_yet (table plan n) scope
     StatementScoped (procedure_call at c) scope = CallScoped c scope
     StatementScoped (own_entry_call at es form) scope = ArgumentsScoped plan es scope × FormScoped plan form scope
-    StatementScoped (operation_call at v c) scope = IsElaborated v scope × OperationScoped c scope
+    StatementScoped (operation_call at v c) scope = IsElaborated v scope × OperationScoped v c scope
     StatementScoped (entry_call at c p q) scope = EntryCallScoped c scope × PartScoped p scope × PartScoped q scope
     StatementScoped (delay at e) scope = DelayScoped plan e scope
-    StatementScoped (accept at n d) scope = IsTaskEntry plan n × DoingScoped d scope
+    StatementScoped (accept at n d) scope = IsTaskEntry plan n × DoingScoped n d scope
     StatementScoped (select at offered p) scope = AlternativesScoped offered scope × PartScoped p scope
     StatementScoped (abort at ts) scope = AllTasksScoped plan ts scope
     StatementScoped (requeue at r) scope = RequeueScoped r scope
@@ -322,14 +356,14 @@ module _ (plan : Plan) (entries : List Entry) where
     PartScoped nothing scope = Unit {0}
     PartScoped (some s) scope = StatementScoped s scope
 
-    -- formals are elaborated when a call is accepted
-    pub DoingScoped : Doing → Scope → Type 0
-    DoingScoped without_do scope = Unit {0}
-    DoingScoped (with_do n b) scope = (formals : ℕ) × BodyScoped b (all_formals formals) (table plan n) scope
+    -- the entry's formals are elaborated when a call is accepted
+    pub DoingScoped : ℕ → Doing → Scope → Type 0
+    DoingScoped entry without_do scope = Unit {0}
+    DoingScoped entry (with_do n b) scope = BodyScoped b (all_formals (formals_of plan entry)) (table plan n) scope
 
     pub AlternativesScoped : Alternatives → Scope → Type 0
     AlternativesScoped no_alternatives scope = Unit {0}
-    AlternativesScoped (accepting g at n d p more) scope = BooleanScoped plan g scope × IsTaskEntry plan n × DoingScoped d scope × PartScoped p scope × AlternativesScoped more scope
+    AlternativesScoped (accepting g at n d p more) scope = BooleanScoped plan g scope × IsTaskEntry plan n × DoingScoped n d scope × PartScoped p scope × AlternativesScoped more scope
     AlternativesScoped (delaying g e p more) scope = BooleanScoped plan g scope × DelayScoped plan e scope × PartScoped p scope × AlternativesScoped more scope
     AlternativesScoped (terminating g more) scope = BooleanScoped plan g scope × AlternativesScoped more scope
 
@@ -360,6 +394,10 @@ module _ (plan : Plan) (entries : List Entry) where
   BarriersScoped [] [] = Unit {0}
   BarriersScoped (e ∷ es) (b ∷ bs) = BooleanScoped plan b (entry_of entries e.unit).outer × BarriersScoped es bs
   BarriersScoped _ _ = ⊥
+
+-- the body of an entry, if it has one, has its formals
+abbrev pub HasFormals : List Entry → EntryPlan → Type 0
+HasFormals entries e = 1 ≤ e.unit → (entry_of entries e.unit).formals ≡ e.formals
 
 -- no object has an entry twice
 abbrev pub IsNot : ℕ → List ℕ → Type 0
@@ -409,6 +447,7 @@ pub record IsScoped (program : Program) : Type 0 where
   pub main : MainEntry entries
   pub units : UnitsScoped program.plan entries program.plan.units program.bodies entries
   pub barriers : BarriersScoped program.plan entries program.plan.entries program.barriers
+  pub formals : AllByRecursion (HasFormals entries) program.plan.entries
   pub objects : HaveDistinctEntries program.plan.objects
   pub owned : EntriesOwned program.plan
   pub numbers : UnitsNumbers (length program.plan.regions) program.plan.units program.bodies

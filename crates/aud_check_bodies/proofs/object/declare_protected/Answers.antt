@@ -53,6 +53,9 @@ returns c =
     let end = plain_tables c.keep_object.new.self in
     let cloned : k.name ≡ i.name = subst (λ r. IfOk r (λ l. l ≡ i.name)) k.ensures.next c.try_clone-name.ensures in
     let listed : k.entries.items ≡ x.entries = ap (λ (v : Vec ℕ Global). v.items) (k.ensures.first ∙ e.ensures.first) ∙ ap (λ (p : ObjectParts). p.entries.items) b.ensures.first in
-    let kept : OnOk c.keep_object.result (end ≡ object_kept i.name x.entries x.tables) =
-    subst (λ l. OnOk c.keep_object.result (end ≡ object_kept l x.entries x.tables)) cloned (subst (λ l. OnOk c.keep_object.result (end ≡ object_kept k.name l x.tables)) listed c.keep_object.ensures) in
+    let leveled : b.parts.own.level ≡ x.own.level = ap (λ (p : ObjectParts). p.own.level) b.ensures.first in
+    let r = c.keep_object.result in
+    let kept : OnOk r (end ≡ object_kept i.name x.own.level x.entries x.tables) =
+    subst (λ l. OnOk r (end ≡ object_kept l x.own.level x.entries x.tables)) cloned
+    (subst (λ n. OnOk r (end ≡ object_kept k.name n x.entries x.tables)) leveled (subst (λ l. OnOk r (end ≡ object_kept k.name b.parts.own.level l x.tables)) listed c.keep_object.ensures)) in
     declares_object c.keep_object.result old new outer first next t end node.at i operations hidden node.end_name x c.in_ok-parts.ensures.declared noted_all region elaborated kept

@@ -15,6 +15,6 @@ returns-then-number-len c =
     let t : Tables = plain_tables c.args.self.now in
     let within : c.args.number < length xs = omega (arith, c.if-number-len.true, c.len.ensures) in
     let barred : ℕ → Option EntryBody = λ u. Some (record { unit = u; barrier = c.args.barrier }) in
-    let made : Entry = record x { body = barred (entry_with [] x.body).unit } in
+    let made : Entry = record x { body = barred (entry_with [] 0 x.body).unit } in
     let same : record x { body = c.replace.new.dest } ≡ made = ap (λ (b : Option EntryBody). record x { body = b }) (c.replace.ensures.after ∙ ap barred c.body_unit-unit.ensures) in
     ap (λ (e : Entry). record t { entries = map plain_entry (slice_set xs c.args.number e) }) same ∙ ap (λ es. record t { entries = es }) (entry_put xs c.args.number x c.args.barrier within c.index_mut-entry.ensures.value)
