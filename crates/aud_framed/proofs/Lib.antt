@@ -7,3 +7,4 @@ pub mod Fitting
 pub mod Kept
 pub mod Opening
 pub mod Stepping
+pub mod Running

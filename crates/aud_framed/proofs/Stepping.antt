@@ -37,6 +37,7 @@ pub mod Entering
 pub mod Finished
 pub mod Enabled
 pub mod Kinds
+pub mod Operating
 pub mod Acting
 pub mod Turning
 pub mod Requeuing
@@ -45,5 +46,10 @@ pub mod Choosing
 pub mod Barriers
 pub mod Expiring
 pub mod Aborted
+pub mod Aborting
 pub mod Eligible
 pub mod DeclaringTasks
+pub mod Making
+pub mod Starting
+pub mod Restarting
+pub mod AgainEnds

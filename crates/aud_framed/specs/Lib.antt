@@ -8,3 +8,5 @@ pub mod StepsOfTasks
 pub mod StepsOfObjects
 pub mod Enabled
 pub mod Turns
+pub mod Runs
+pub mod Fitting

@@ -26,8 +26,7 @@ use Rattle.aud_code.specs.Places.{Spot, Guard, is_there}
 use Rattle.aud_code.specs.Instruction.{Ending, CallKind, DeclareTasks, DeclareObject, Activated, Activate, Loop, Block, Proc, Operation, CallTask, CallObject, Delay, Accept, Select, Abort}
 use Rattle.aud_code.specs.Flat.{Last, Does, Continues, Guards, Ends, Leaves, EndLine, end, Flat, asked_at, end_at, flat_controls, handler_at}
 use Rattle.aud_code.specs.Seen.{IsSeen}
-use Rattle.aud_code.specs.View.{plain_code}
-use Rattle.aud_code.specs.declared.line.Code.{Code}
+use Rattle.aud_code.specs.View.{EndsPlainly}
 use Rattle.aud_code.specs.Sound.{Counts, IsSound}
 use Rattle.aud_code.specs.Starts.{AreSpots}
 use Rattle.aud_typed.specs.declared.program.Variable.{Variable}
@@ -248,6 +247,6 @@ MeetsKeptLaw =
     (end_at code t.control.place).last ≡ Does (Accept a.entry a.region) → a.region ≡ None → queue n a.entry c.shared.calls ≡ x ∷ xs →
     IsKept plan code seen (accepts_call (carried_out (flat_controls plan code)) plan (flat_controls plan code).barrier a n c)
 
--- Code in memory leads where its steps go.
+-- Code whose steps end as those of code in memory do has the ways that they take.
 abbrev pub LeadsLaw : Type 0
-LeadsLaw = (code : Code) → HasWays (plain_code code)
+LeadsLaw = (code : Flat) → EndsPlainly code → HasWays code

@@ -10,10 +10,11 @@ use Rattle.aud_meaning.specs.declared.state.Construct.TheVariants as construct
 use Rattle.aud_meaning.specs.declared.state.Owner.TheVariants as owner
 use Rattle.aud_meaning.specs.declared.state.Pending.{Pending}
 use Rattle.aud_meaning.specs.declared.state.Resumed.{Resumed}
+use Rattle.aud_meaning.specs.declared.state.Restart.{Restart}
 use Rattle.aud_meaning.specs.declared.state.Serving.{Serving}
 use Rattle.aud_meaning.specs.declared.state.Status.TheVariants.{Running, Calling}
 use Rattle.aud_meaning.specs.Configuration.{for_entry, for_operation, Opened, Returning, Target, TaskAt, All}
-use Rattle.aud_meaning.specs.Control.{ends, is_left_by}
+use Rattle.aud_meaning.specs.Control.{Called, calls_entry, ends, is_left_by}
 use Rattle.aud_meaning.specs.Effects.{out_of_loops}
 use Rattle.aud_meaning.specs.Step.{done, object_declared}
 use Rattle.aud_meaning.specs.Evaluation.{Passed, Sight}
@@ -24,10 +25,10 @@ use Rattle.aud_code.specs.Flat.{Does, Ends, Flat, end_at, flat_controls}
 use Rattle.aud_code.specs.Instruction.{DeclareObject, Operation}
 use Rattle.aud_code.specs.Seen.{IsSeen}
 use Rattle.aud_code.specs.Sound.{Counts, IsSound}
-use Rattle.aud_meaning.specs.Tasks.{barrier_met, call_expires, calls_operation, completes, eligible, entries_of, enters_entry, is_conditional, serves, serviced, withdraws}
-use Rattle.aud_framed.specs.Calls.{CallsOn, EntryFits, IsServed, calls_in, changes, objects_in}
+use Rattle.aud_meaning.specs.Tasks.{barrier_met, call_expires, calls_operation, completes, eligible, entries_of, enters_entry, is_conditional, serves, serviced, starts_again, withdraws}
+use Rattle.aud_framed.specs.Calls.{CallsOn, EntryFits, IsServed, calls_in, changes, objects_in, with_restarted}
 use Rattle.aud_framed.specs.Framed.{EntriesFit, HasLevels, IsFramed}
-use Rattle.aud_framed.specs.Stepping.{HasWays, IsKept}
+use Rattle.aud_framed.specs.Stepping.{CallsBy, HasWays, IsKept}
 
 -- A task begins an action on an object, with no other's in the way.
 abbrev pub ActionBegunLaw : Type 0
@@ -126,6 +127,16 @@ BarrierMetLaw =
     (is_conditional (carried_out (flat_controls plan code)) plan (flat_controls plan code).barrier (call_of id c).form ≡ true → ((call_of id c).caller ≡ n) × (t.own.status ≡ Calling)) →
     IsKept plan code seen (barrier_met (carried_out (flat_controls plan code)) plan (flat_controls plan code).barrier b at object id n c)
 
+-- A task calls an entry of an object, with no other's action in the way. One that is abnormal calls only within an action, where it is refused.
+abbrev pub CallsObjectKeptLaw : Type 0
+CallsObjectKeptLaw =
+    (plan : Plan) (code : Flat) (table : List Counts) (tasks barriers seen : List ℕ) (limits : Limits) (alternative : Option ℕ) (object : ℕ) (call : Called) (n : ℕ) (c : All Spot) (t : TaskAt Spot) →
+    IsSound code → IsSeen code table tasks barriers seen → HasLevels plan code tasks seen → HasWays code → IsKept plan code seen c →
+    slice_get c.tasks n ≡ Some t → t.own.status ≡ Running → t.own.pending ≡ None → t.own.again ≡ None → t.own.restart ≡ None →
+    (in_action n c ≡ false → t.own.abnormal ≡ false) → EntryFits plan c (owner.Object object) call.entry → in_the_way n false (object_of object c) ≡ false →
+    CallsBy (end_at code t.control.place).last (owner.Object object) call →
+    IsKept plan code seen (done (carried_out (flat_controls plan code)) plan (flat_controls plan code).barrier limits alternative (calls_entry (owner.Object object) call) n c)
+
 -- The time of a timed call has come: the call is cancelled, and its object serviced.
 abbrev pub CallExpiresLaw : Type 0
 CallExpiresLaw =
@@ -164,3 +175,18 @@ ObjectDeclaredLaw =
 -- The entries that may be served are the object's, by their indexes.
 abbrev pub EligibleLaw : Type 0
 EligibleLaw = (plan : Plan) (barrier : ℕ → Sight → Result Bool Raise) (object : ℕ) (c : All Spot) (places : List ℕ) (i : ℕ) → eligible plan barrier object c ≡ Ok places → contains i places ≡ true → (1 ≤ i) × (i ≤ length (entries_of plan barrier object c))
+
+-- Nobody serves a call on a task's entry that the task doesn't serve.
+abbrev pub TaskUnservedLaw : Type 0
+TaskUnservedLaw =
+    (plan : Plan) (code : Flat) (seen : List ℕ) (n id : ℕ) (c : All Spot) →
+    IsFramed plan code seen c → (call_of id c).owner ≡ owner.Task n → contains id (with_restarted (own_of n c).restart (calls_in (own_of n c).opened)) ≡ false →
+    (m : ℕ) → is_over (own_of m c).status ≡ false → contains id (with_restarted (own_of m c).restart (calls_in (own_of m c).opened)) ≡ false
+
+-- A call that its accept makes again on an object is made, as the acceptor's next step.
+abbrev pub StartsAgainLaw : Type 0
+StartsAgainLaw =
+    (plan : Plan) (code : Flat) (table : List Counts) (tasks barriers seen : List ℕ) (r : Restart) (n : ℕ) (c : All Spot) (t : TaskAt Spot) →
+    IsSound code → IsSeen code table tasks barriers seen → HasLevels plan code tasks seen → HasWays code → IsKept plan code seen c →
+    slice_get c.tasks n ≡ Some t → t.own.status ≡ Running → t.own.restart ≡ Some r → in_the_way n false (object_of r.object c) ≡ false →
+    IsKept plan code seen (starts_again (carried_out (flat_controls plan code)) plan (flat_controls plan code).barrier r n c)

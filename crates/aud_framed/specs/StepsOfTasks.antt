@@ -3,20 +3,21 @@ use Rattle.std.specs.Prelude.{◌≡◌, ℕ, List, [], ◌∷◌, Option, Some,
 use Rattle.aud_text.specs.declared.limits.Limits.{Limits}
 use Rattle.aud_text.specs.declared.place.Pos.{Pos}
 use Rattle.aud_typed.specs.Tree.{Plan, Tasks}
+use Rattle.aud_meaning.specs.declared.state.Again.{Again}
 use Rattle.aud_meaning.specs.declared.state.Construct.TheVariants as construct
 use Rattle.aud_meaning.specs.declared.state.OpenAccept.{OpenAccept}
 use Rattle.aud_meaning.specs.declared.state.Owner.TheVariants as owner
 use Rattle.aud_meaning.specs.declared.state.Pending.{Pending}
 use Rattle.aud_meaning.specs.declared.state.Status.TheVariants.{Running}
 use Rattle.aud_meaning.specs.Configuration.{for_accept, Opened, TaskAt, Waits, All}
-use Rattle.aud_meaning.specs.Control.{Called, accepts, activates, calls_entry, declares_tasks, ends, ends_activation, is_left_by, selects}
+use Rattle.aud_meaning.specs.Control.{Called, aborts, accepts, activates, calls_entry, declares_tasks, ends, ends_activation, is_left_by, selects}
 use Rattle.aud_meaning.specs.Effects.{out_of_loops}
 use Rattle.aud_meaning.specs.Orders.{carried_out}
 use Rattle.aud_meaning.specs.Parts.{Closable, in_action}
 use Rattle.aud_meaning.specs.Run.{scene_of}
 use Rattle.aud_meaning.specs.Step.{done}
 use Rattle.aud_code.specs.Places.{Spot}
-use Rattle.aud_code.specs.Instruction.{Accept, Activate, Activated, DeclareTasks}
+use Rattle.aud_code.specs.Instruction.{Abort, Accept, Activate, Activated, DeclareTasks}
 use Rattle.aud_code.specs.Flat.{Does, Ends, Leaves, Flat, asked_at, end_at, flat_controls}
 use Rattle.aud_code.specs.Seen.{IsSeen}
 use Rattle.aud_code.specs.Sound.{Counts, IsSound}
@@ -81,6 +82,15 @@ AcceptEndedKeptLaw =
     t.own.opened ≡ o ∷ os → o.purpose ≡ for_accept id → (end_at code t.control.place).last ≡ Ends construct.Accept next →
     IsKept plan code seen (done (carried_out (flat_controls plan code)) plan (flat_controls plan code).barrier limits alternative (ends 0) n c)
 
+-- Or its call is made again: on an entry of a task, or on an object as the acceptor's next step.
+abbrev pub AcceptEndsAgainLaw : Type 0
+AcceptEndsAgainLaw =
+    (plan : Plan) (code : Flat) (table : List Counts) (tasks barriers seen : List ℕ) (limits : Limits) (alternative : Option ℕ) (n : ℕ) (c : All Spot) (t : TaskAt Spot) (o : Opened) (os : List Opened) (id next : ℕ) (r : Again) →
+    IsSound code → IsSeen code table tasks barriers seen → HasWays code → IsKept plan code seen c →
+    slice_get c.tasks n ≡ Some t → t.own.status ≡ Running → t.own.pending ≡ None → t.own.again ≡ Some r →
+    t.own.opened ≡ o ∷ os → o.purpose ≡ for_accept id → (end_at code t.control.place).last ≡ Ends construct.Accept next →
+    IsKept plan code seen (done (carried_out (flat_controls plan code)) plan (flat_controls plan code).barrier limits alternative (ends 0) n c)
+
 -- An exception leaves it.
 abbrev pub AcceptLeftKeptLaw : Type 0
 AcceptLeftKeptLaw =
@@ -108,3 +118,12 @@ SelectsKeptLaw =
     objects_in t.own.opened ≡ [] → AllOfTasks plan waits.accepts →
     asked_at code None (scene_of plan (flat_controls plan code) n c) t.control ≡ selects has_else waits at →
     IsKept plan code seen (done (carried_out (flat_controls plan code)) plan (flat_controls plan code).barrier limits alternative (selects has_else waits at) n c)
+
+-- Tasks are aborted, with those that depend on them.
+abbrev pub AbortsKeptLaw : Type 0
+AbortsKeptLaw =
+    (plan : Plan) (code : Flat) (table : List Counts) (tasks barriers seen : List ℕ) (limits : Limits) (alternative : Option ℕ) (ns : List ℕ) (at : Pos) (n : ℕ) (c : All Spot) (t : TaskAt Spot) →
+    IsSound code → IsSeen code table tasks barriers seen → HasWays code → IsKept plan code seen c →
+    slice_get c.tasks n ≡ Some t → t.own.status ≡ Running → t.own.pending ≡ None → t.own.again ≡ None →
+    (end_at code t.control.place).last ≡ Does Abort →
+    IsKept plan code seen (done (carried_out (flat_controls plan code)) plan (flat_controls plan code).barrier limits alternative (aborts ns at) n c)

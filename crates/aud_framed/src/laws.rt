@@ -6,9 +6,9 @@ ghost use Rattle.aud_code.specs.Places.{Spot};
 ghost use Rattle.aud_framed.specs.Framed.{FramedOpensLaw, FramedSuppliedLaw, KeptFramedLaw, KeptMissedLaw};
 ghost use Rattle.aud_framed.specs.Stepping.{LoneFramedLaw, HandledStepLaw, CallKeptLaw, MasterKeptLaw, ClosedKeptLaw, PartKeptLaw, BlockKeptLaw, DelayKeptLaw, ExpiresKeptLaw, ProcedureKeptLaw, LeftKeptLaw, BodyKeptLaw, ActivationKeptLaw, AcceptKeptLaw, SelectedKeptLaw, MeetsKeptLaw, LeadsLaw};
 ghost use Rattle.aud_framed.specs.Enabled.{EnabledLaw};
-ghost use Rattle.aud_framed.specs.Turns.{EndsKeptLaw, ActsKeptLaw, TasksStepLaw};
-ghost use Rattle.aud_framed.specs.StepsOfTasks.{ActivatesKeptLaw, ActivatedKeptLaw, DeclaresTasksKeptLaw, AcceptsKeptLaw, CallsTaskKeptLaw, AcceptEndedKeptLaw, AcceptLeftKeptLaw, LeavesKeptLaw, SelectsKeptLaw};
-ghost use Rattle.aud_framed.specs.StepsOfObjects.{ActionBegunLaw, ActionEndedLaw, ServicedLaw, OperationBegunLaw, EntryEnteredLaw, OperationEndedLaw, OperationLeftLaw, EntryEndedLaw, EntryLeftLaw, ServesLaw, BarrierMetLaw, CallExpiresLaw, WithdrawsLaw, AbortedCompletesLaw, ObjectDeclaredLaw, EligibleLaw};
+ghost use Rattle.aud_framed.specs.Turns.{EndsKeptLaw, ActsKeptLaw, FramedLaw};
+ghost use Rattle.aud_framed.specs.StepsOfTasks.{ActivatesKeptLaw, ActivatedKeptLaw, DeclaresTasksKeptLaw, AcceptsKeptLaw, CallsTaskKeptLaw, AcceptEndedKeptLaw, AcceptEndsAgainLaw, AcceptLeftKeptLaw, LeavesKeptLaw, SelectsKeptLaw, AbortsKeptLaw};
+ghost use Rattle.aud_framed.specs.StepsOfObjects.{ActionBegunLaw, ActionEndedLaw, ServicedLaw, OperationBegunLaw, EntryEnteredLaw, OperationEndedLaw, OperationLeftLaw, EntryEndedLaw, EntryLeftLaw, ServesLaw, BarrierMetLaw, CallExpiresLaw, WithdrawsLaw, AbortedCompletesLaw, ObjectDeclaredLaw, EligibleLaw, TaskUnservedLaw, StartsAgainLaw, CallsObjectKeptLaw};
 ghost use Rattle.aud_framed.specs.Ways.{PartFramedLaw, InsideFramedLaw, BlockFramedLaw, AcceptFramedLaw, TurnFramedLaw, WayFramedLaw, BeginsFramedLaw, EntersFramedLaw, ServesFramedLaw, AcceptsFramedLaw, OffersFramedLaw, EndsFramedLaw, LeavesFramedLaw, ActivatesFramedLaw, HandledFramedLaw, LeftFramedLaw, HeldFitsLaw};
 
 /// Where a part of a step follows, and behind blocks, accepts and loops, a task holds the frames that are open there.
@@ -116,7 +116,7 @@ pub fn left_kept_law()
     ensures kept { LeftKeptLaw }
 {}
 
-/// Code in memory leads where its steps go.
+/// Code whose steps end as those of code in memory do has the ways that they take.
 pub fn leads_law()
     ensures leads { LeadsLaw }
 {}
@@ -187,6 +187,11 @@ pub fn selects_kept_law()
     ensures kept { SelectsKeptLaw }
 {}
 
+/// Tasks are aborted, which keeps them.
+pub fn aborts_kept_law()
+    ensures kept { AbortsKeptLaw }
+{}
+
 /// An action on an object that begins, and one that ends, keep them.
 pub fn actions_law()
     ensures begun { ActionBegunLaw }
@@ -231,6 +236,11 @@ pub fn barrier_met_law()
     ensures met { BarrierMetLaw }
 {}
 
+/// A call of an object's entry keeps them, whether the body is entered, or the call is queued or refused.
+pub fn calls_object_kept_law()
+    ensures kept { CallsObjectKeptLaw }
+{}
+
 /// A call that is cancelled at its time, and a task that withdraws from an object, keep them.
 pub fn cancelled_law()
     ensures expires { CallExpiresLaw }
@@ -247,7 +257,7 @@ pub fn object_declared_law()
     ensures declared { ObjectDeclaredLaw }
 {}
 
-/// An enabled move tells that nothing is in the way of its task.
+/// An enabled move tells that nothing is in the way of its task, and that the entry that it serves is one of the object's.
 pub fn enabled_law()
     ensures tells { EnabledLaw }
 {}
@@ -257,12 +267,27 @@ pub fn ends_kept_law()
     ensures kept { EndsKeptLaw }
 {}
 
-/// What a task's own statements ask keeps them, but for calls on protected objects, aborts, and calls that accepts make again.
+/// What a task's own statements ask keeps them.
 pub fn acts_kept_law()
     ensures kept { ActsKeptLaw }
 {}
 
-/// An enabled step keeps them, but for those, and for services of objects.
-pub fn tasks_step_law()
-    ensures step { TasksStepLaw }
+/// An enabled step keeps them, if what is asked meets what code alone doesn't say.
+pub fn framed_law()
+    ensures step { FramedLaw }
+{}
+
+/// Who serves a call on a task's entry.
+pub fn task_unserved_law()
+    ensures unserved { TaskUnservedLaw }
+{}
+
+/// A call that is made again on an object keeps them.
+pub fn starts_again_law()
+    ensures starts { StartsAgainLaw }
+{}
+
+/// What an accept does is left and its call made again, which keeps them.
+pub fn accept_ends_again_law()
+    ensures kept { AcceptEndsAgainLaw }
 {}

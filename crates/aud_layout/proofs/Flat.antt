@@ -21,3 +21,4 @@ pub mod Opening
 pub mod Seeing
 pub mod SeeingStatements
 pub mod SeeingLaw
+pub mod Levels

@@ -1,5 +1,5 @@
 -- The laws that tie the code of a program to its meaning.
-use Rattle.std.specs.Prelude.{◌≡◌, ℕ, List, [], ◌∷◌, map}
+use Rattle.std.specs.Prelude.{◌≡◌, ℕ, suc, List, [], ◌∷◌, map, Some, slice_get, slice_index_or}
 use Rattle.aud_text.specs.declared.limits.Limits.{Limits}
 use Rattle.aud_typed.specs.Tree.{Program}
 use Rattle.aud_typed.specs.Why.Scoped.{IsScoped}
@@ -8,12 +8,13 @@ use Rattle.aud_meaning.specs.Configuration.{Item, All, Configuration}
 use Rattle.aud_meaning.specs.Control.{Moved, Controls, ordered}
 use Rattle.aud_meaning.specs.Statements.{controls}
 use Rattle.aud_meaning.specs.declared.state.Move.{Move}
+use Rattle.aud_meaning.specs.Parts.{task_plan, unit_of}
 use Rattle.aud_meaning.specs.Run.{seen, moves_at, state_at, step_with, run_with, run, step, supplied, advanced, opening, opening_with, main_raised}
 use Rattle.aud_meaning.specs.Why.Agree.{Agrees, ShowsAll}
 use Rattle.aud_code.specs.Places.{Spot}
-use Rattle.aud_code.specs.Flat.{flat_controls}
+use Rattle.aud_code.specs.Flat.{flat_controls, start_at}
 use Rattle.aud_code.specs.Seen.{IsSeen}
-use Rattle.aud_code.specs.Sound.{IsStart, IsSound}
+use Rattle.aud_code.specs.Sound.{Counts, IsStart, IsSound}
 use Rattle.aud_code.specs.Tabled.{IsTabled, table_of}
 use Rattle.aud_layout.specs.Layout.{Code, code_of, code_controls}
 use Rattle.aud_layout.specs.Shows.{UnitsAt, ShowsControl}
@@ -108,3 +109,17 @@ TabledLaw = (program : Program) → IsTabled (flat_program program).lines (table
 abbrev pub SeenTabledLaw : Type 0
 SeenTabledLaw =
     (program : Program) (seen : List ℕ) → IsScoped program → DeclaresInParts program → CountsFrames program seen → IsSeen (flat_program program) (table_of (flat_program program).lines) (task_bodies program) (barrier_frames program) seen
+
+-- where a body begins, its own frame is open besides as many as its level says
+abbrev pub BodiesSeen : Program → List ℕ → Type 0
+BodiesSeen program seen = (n : ℕ) → slice_get seen (start_at (flat_program program) n) ≡ Some (suc (unit_of program.plan n).level)
+
+-- the body of a task type is that of its plan
+abbrev pub TypesTold : Program → List ℕ → Type 0
+TypesTold program tasks = (n : ℕ) → slice_index_or tasks n 0 ≡ (task_plan program.plan n).unit
+
+-- The code of each scoped program has a table of frames that fits it, beside some table of operands, and by which each body begins with
+-- the frames of its level.
+abbrev pub FramesTabledLaw : Type 0
+FramesTabledLaw =
+    (program : Program) → IsScoped program → DeclaresInParts program → (table : List Counts) × (tasks : List ℕ) × (barriers : List ℕ) × (seen : List ℕ) × IsSeen (flat_program program) table tasks barriers seen × BodiesSeen program seen × TypesTold program tasks

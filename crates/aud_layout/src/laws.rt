@@ -2,7 +2,7 @@
 // the law.
 
 ghost use Rattle.aud_layout.specs.Asking.{DeclarationLaw, NullLaw, AssignmentLaw, PutLaw, AskedLaw, ComingLaw, BarrierLaw};
-ghost use Rattle.aud_layout.specs.Law.{LayoutAgreementLaw, AgreementLaw, SeenLaw, OrderLaw, MovesLaw, StateLaw, RaisedLaw, StepLaw, RunLaw, OpeningLaw, SupplyLaw, AdvanceLaw, StartLaw, SoundLaw, TabledLaw, SeenTabledLaw};
+ghost use Rattle.aud_layout.specs.Law.{LayoutAgreementLaw, AgreementLaw, SeenLaw, OrderLaw, MovesLaw, StateLaw, RaisedLaw, StepLaw, RunLaw, OpeningLaw, SupplyLaw, AdvanceLaw, StartLaw, SoundLaw, TabledLaw, SeenTabledLaw, FramesTabledLaw};
 ghost use Rattle.aud_layout.specs.Written.{WrittenLaw};
 
 /// The instructions of a declaration ask for the variable with its initial value (RM 3.3.1).
@@ -106,6 +106,11 @@ pub fn tabled_law()
 /// A table that counts the frames of a scoped program's code fits it (RM 8.3).
 pub fn seen_tabled_law()
     ensures { SeenTabledLaw }
+{}
+
+/// The code of each scoped program has such a table, by which each body begins with the frames of its level.
+pub fn frames_tabled_law()
+    ensures { FramesTabledLaw }
 {}
 
 /// The code of every program, line by line from its first to its last.

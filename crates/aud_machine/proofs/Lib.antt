@@ -1,5 +1,6 @@
 mod Bridges
 mod Counted
+mod Framed
 mod Missed
 pub mod Tasking
 mod Views

@@ -1,3 +1,4 @@
 pub mod Shown
 pub mod Shows
 pub mod Tasking
+pub mod Frames

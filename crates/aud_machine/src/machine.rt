@@ -13,6 +13,8 @@ ghost use Rattle.aud_code.specs.Starts.{AreSpots};
 ghost use Rattle.aud_expr.specs.Size.{size};
 ghost use Rattle.aud_over.specs.Over.{forgotten};
 ghost use Rattle.aud_tasks.specs.Counting.{executed, most_of_barriers, step_ticks, Counts};
+ghost use Rattle.aud_framed.specs.Fitting.{DeclaresDirectly, OnlyOpen};
+ghost use Rattle.aud_machine.specs.Frames.{HoldsFrames, Meets};
 ghost use Rattle.aud_machine.specs.Shown.{program_in};
 ghost use Rattle.aud_machine.specs.Shows.{Shows, IfShows, Leaves, RunsFrom, Takes};
 
@@ -61,6 +63,7 @@ impl Model for Machine {
     ghost use Rattle.aud_meaning.specs.Why.Limits.{IsWithin};
     ghost use Rattle.aud_code.specs.Places.{Spot};
     ghost use Rattle.aud_code.specs.Starts.{AreSpots};
+    ghost use Rattle.aud_machine.specs.Frames.{ComesTo, HasTable};
     ghost use Rattle.aud_machine.specs.Shown.{Shown};
     ghost use Rattle.aud_machine.specs.Shows.{MissesNone};
     ghost use Rattle.std.specs.Coded.{codes};
@@ -84,6 +87,14 @@ impl Model for Machine {
         × (m.spent ≡ false → AreSpots m.code.lines m.state.tasks)
         × (m.spent ≡ false → 1 ≤ m.limits.tasks → IsWithin Spot m.limits m.state)
         × (m.spent ≡ false → MissesNone (record {
+          program = m.program;
+          code = m.code;
+          limits = m.limits;
+          all = m.state;
+          spent = m.spent;
+        }))
+        × HasTable (plain_program m.program).plan m.code
+        × (m.spent ≡ false → ComesTo (record {
           program = m.program;
           code = m.code;
           limits = m.limits;
@@ -213,8 +224,11 @@ impl Machine {
     /// All that it has: the frames, the tasks, the calls, the protected objects, the clock and the steps taken. If the
     /// machine isn't spent, each task stands where a step begins, its limits hold of them (so many tasks and objects, so
     /// many live frames of each task, and so much output), and no call is queued on a task's open entry, one for which
-    /// the task is blocked at an accept or at an open alternative (RM 9.5.3(5)). Of frames and calls that are over,
-    /// nothing need be left, and nothing of them is shown.
+    /// the task is blocked at an accept or at an open alternative (RM 9.5.3(5)). Then each task under way holds the
+    /// frames that are open where it stands and no others, if what the program asks always meets what its code alone
+    /// doesn't say, as that the object is there whose operation it calls; and what is left is what is open, if its code
+    /// declares tasks directly in bodies and blocks. Of frames and calls that are over, nothing need be left, and
+    /// nothing of them is shown.
     pub fn parts(&self) -> &State
         ensures all { result.now ≡ self.now.all }
         ensures within { self.now.spent ≡ false → 1 ≤ self.now.limits.tasks →
@@ -222,6 +236,9 @@ impl Machine {
         ensures spots { self.now.spent ≡ false → AreSpots self.now.code.lines result.now.tasks }
         ensures missed { self.now.spent ≡ false → (n entry : ℕ) → IsOpen (own_of n result.now) entry →
             queued_on (is_task n) entry result.now.shared.calls ≡ [] }
+        ensures framed { self.now.spent ≡ false → Meets self.now → HoldsFrames self.now }
+        ensures left { self.now.spent ≡ false → Meets self.now → DeclaresDirectly self.now.code →
+            OnlyOpen (program_in self.now).plan self.now.code result.now }
         ensures tasks { IfShows self.now (λ c. owns result.now.tasks ≡ owns c.tasks) }
         ensures shared { IfShows self.now (λ c.
             (forgotten result.now).shared ≡ (forgotten c).shared) }
@@ -231,6 +248,7 @@ impl Machine {
         ensures view { IfShows self.now (λ c. let plan = (program_in self.now).plan in
             view_at plan (flat_controls plan self.now.code) result.now ≡ view (program_in self.now) c) }
     {
+        let _ = self.code.len();
         &self.state
     }
 

@@ -127,6 +127,9 @@ module _ (plan : Plan) (code : Flat) (table : List Counts) (tasks barriers seen 
     pub was_served : IsServed plan c id (owner.Task n)
     was_served = served.0.0
 
+    pub outside : objects_in os ≡ []
+    outside = served.0.1
+
     pub live : is_call_over (call_of id c).state ≡ false
     live = ap is_call_over served.0.0.0
 

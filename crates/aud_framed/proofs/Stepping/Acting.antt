@@ -1,5 +1,5 @@
 -- What a task's own statements do.
-use Rattle.std.proofs.Common.{◌≡◌, ℕ, List, replicate, Option, Some, None, Bool, true, false, nat_le, refl, sym, subst, inl, inr, if◌then◌else◌, slice_get}
+use Rattle.std.proofs.Common.{◌≡◌, ℕ, List, replicate, Option, Some, None, Bool, true, false, nat_le, refl, sym, ap, subst, inl, inr, if◌then◌else◌, slice_get}
 use Rattle.std.specs.Prelude.{is_some}
 use Rattle.aud_text.specs.declared.limits.Limits.{Limits}
 use Rattle.aud_text.specs.declared.limits.TheConstants.{ELEMENTS}
@@ -13,7 +13,7 @@ use Rattle.aud_meaning.specs.declared.state.Pending.{Pending}
 use Rattle.aud_meaning.specs.declared.state.Status.TheVariants.{Running}
 use Rattle.aud_meaning.specs.Configuration.{TaskAt, All}
 use Rattle.aud_meaning.specs.Control as asked
-use Rattle.aud_meaning.specs.Control.{Asked, Called, Coming, Scene, ending, raises_here, declares, declares_array, declares_tasks, declares_object, ends_activation, activates, goes_on, assigns, puts, enters_loop, next_of_loop, goes_out, raises, raises_again, enters_block, calls_procedure, calls_operation, calls_own_entry, calls_entry, delays, accepts, selects, aborts, requeues, ends, handles, is_left_by}
+use Rattle.aud_meaning.specs.Control.{Asked, Called, Coming, Scene, ending, starting, raises_here, declares, declares_array, declares_tasks, declares_object, ends_activation, activates, goes_on, assigns, puts, enters_loop, next_of_loop, goes_out, raises, raises_again, enters_block, calls_procedure, calls_operation, calls_own_entry, calls_entry, delays, accepts, selects, aborts, requeues, ends, handles, is_left_by}
 use Rattle.aud_meaning.specs.Effects as effects
 use Rattle.aud_meaning.specs.Evaluation.{nearest_zero}
 use Rattle.aud_meaning.specs.Parts.{alone, in_action, sight_of}
@@ -32,9 +32,9 @@ use Rattle.aud_code.specs.Sound.{Counts, IsSound}
 use Rattle.aud_framed.specs.Calls.{EntryFits}
 use Rattle.aud_framed.specs.Enabled.{ComingTells}
 use Rattle.aud_framed.specs.Framed.{AskedMeets, HasLevels, IsFramed, IsLeaving, MeetsBy}
-use Rattle.aud_framed.specs.Turns.{OfTasks}
 use Rattle.aud_framed.specs.Ways.{StandsAtStep}
 use Rattle.aud_framed.specs.Stepping.{AskedBy, CallsBy, DoesPlain, HasWays}
+use Rattle.aud_framed.proofs.Stepping.Aborting.{aborts_good}
 use Rattle.aud_framed.proofs.Stepping.Activated.{ends_activation_good}
 use Rattle.aud_framed.proofs.Stepping.Asked.{asks}
 use Rattle.aud_framed.proofs.Stepping.Beginning.{activates_good}
@@ -44,12 +44,15 @@ use Rattle.aud_framed.proofs.Stepping.Declaring.{declared}
 use Rattle.aud_framed.proofs.Stepping.DeclaringTasks.{declares_tasks_good}
 use Rattle.aud_framed.proofs.Stepping.Delays.{delay_begun}
 use Rattle.aud_framed.proofs.Stepping.Ending.{Good}
+use Rattle.aud_framed.proofs.Stepping.Entering.{operation_begun}
 use Rattle.aud_framed.proofs.Stepping.Handling.{handled_step}
 use Rattle.aud_framed.proofs.Stepping.Kinds.{ends_good, left_good}
 use Rattle.aud_framed.proofs.Stepping.Lone.{at_step, lone_framed, not_again}
+use Rattle.aud_framed.proofs.Stepping.Operating.{nothing_there}
 use Rattle.aud_framed.proofs.Stepping.Refusing.{orders}
 use Rattle.aud_framed.proofs.Stepping.Rendezvous.{accepts_good}
 use Rattle.aud_framed.proofs.Stepping.Selects.{selects_good}
+use Rattle.aud_framed.proofs.Stepping.Starting.{calls_object_good, object_comes}
 
 module _ (plan : Plan) (code : Flat) (table : List Counts) (tasks barriers seen : List ℕ) (sound : IsSound code) (fits : IsSeen code table tasks barriers seen) (levels : HasLevels plan code tasks seen) (ways : HasWays code) (limits : Limits) (alternative : Option ℕ) (n : ℕ) (c : All Spot) (t : TaskAt Spot) (w : Good plan code table tasks barriers seen sound fits ways c) (is : slice_get c.tasks n ≡ Some t) (running : t.own.status ≡ Running) (unserving : t.own.serving ≡ None) (starts_none : t.own.restart ≡ None) (meets : MeetsBy plan code (Some t) n c) where
   abbrev scene : Scene
@@ -83,57 +86,62 @@ module _ (plan : Plan) (code : Flat) (table : List Counts) (tasks barriers seen 
     no_leave : (last : Last) (entry : ℕ) (form : CallKind) → last ≡ Does (CallTask entry form) → is_leave (coming_last plan last (sight_of n c) (eval true (no_scene (sight_of n c)) (instructions_at code t.control.place) 0 no_operands)) t.own ≡ false
     no_leave last entry form e = subst (λ l. is_leave (coming_last plan l (sight_of n c) (eval true (no_scene (sight_of n c)) (instructions_at code t.control.place) 0 no_operands)) t.own ≡ false) (sym e) refl
 
-    call_good : (o : Owner) (call : Called) → CallsBy (end_at code t.control.place).last o call → EntryFits plan c o call.entry → OfTasks t.own (calls_entry o call) → t.own.again ≡ None → Framed (calls_entry o call)
-    call_good (owner.Task m) call d met its still =
+    call_good : (o : Owner) (call : Called) → asked_at code None scene t.control ≡ calls_entry o call → CallsBy (end_at code t.control.place).last o call → EntryFits plan c o call.entry → t.own.again ≡ None → Framed (calls_entry o call)
+    call_good (owner.Task m) call e d met still =
         (calls_task_good plan code table tasks barriers seen sound fits ways alternative m n call d.0 c t w is running none still starts_none met d.1
         (λ free. well free (no_leave (end_at code t.control.place).last call.entry d.0 d.1))).framed
-    call_good (owner.Object m) call d met its still = absurd its
+    call_good (owner.Object m) call e d met still =
+        let comes : Comes None ≡ starting m false = object_comes plan code n c t.control m call d.0 d.1.0 d.1.1 e in
+        (calls_object_good plan code table tasks barriers seen sound fits ways levels m n call d.0 d.1.0 c t w is running none still starts_none met d.1.1 (subst (λ next. ComingTells n c next) comes tells)
+        (λ free. well free (ap (λ next. is_leave next t.own) comes))).framed
 
     -- at an end nothing else comes
     end_tells : (loops : ℕ) → AskedBy (end_at code t.control.place).last out (ends loops) → ComingTells n c ending
     end_tells loops (inl d) = subst (λ last. ComingTells n c (coming_last plan last (sight_of n c) (eval true (no_scene (sight_of n c)) (instructions_at code t.control.place) 0 no_operands))) d.1.1.0 tells
     end_tells loops (inr d) = subst (λ last. ComingTells n c (coming_last plan last (sight_of n c) (eval true (no_scene (sight_of n c)) (instructions_at code t.control.place) 0 no_operands))) d.1 tells
 
-    acts_by : (a : Asked) → asked_at code None scene t.control ≡ a → AskedBy (end_at code t.control.place).last out a → AskedMeets plan t.own c a → (is_some t.own.again ≡ true → IsLeaving a) → OfTasks t.own a → Framed a
-    acts_by (raises_here raise at) e d m l o = lone (raises_here raise at) e tt
-    acts_by (asked.raises_in_part raise at) e d m l o = (raised_in_part plan code table tasks barriers seen sound fits ways raise at n c t w is running none (not_again t.own.again ⊥ l (λ h. h)) d).framed
-    acts_by (declares up_to z) e d m l o = lone (declares up_to z) e tt
-    acts_by (declares_array at z size) e d m l o = array_declared at z size d e (not_again t.own.again ⊥ l (λ h. h)) (nat_le size ELEMENTS) refl
-    acts_by (declares_tasks at ts) e d m l o = (declares_tasks_good plan code table tasks barriers seen sound fits ways levels limits at ts n c t w is running none (not_again t.own.again ⊥ l (λ h. h)) d).framed
-    acts_by (declares_object at k cells) e d m l o = (declared plan code table tasks barriers seen sound fits ways at k cells n c t w is running none (not_again t.own.again ⊥ l (λ h. h)) d m).framed
-    acts_by ends_activation e d m l o = (ends_activation_good plan code table tasks barriers seen sound fits ways n c t w is running none (not_again t.own.again ⊥ l (λ h. h)) d).framed
-    acts_by (activates at) e d m l o = (activates_good plan code table tasks barriers seen sound fits ways levels at n c t w is running none (not_again t.own.again ⊥ l (λ h. h)) unserving d).framed
-    acts_by (goes_on part) e d m l o = lone (goes_on part) e tt
-    acts_by (assigns target z) e d m l o = lone (assigns target z) e tt
-    acts_by (puts text) e d m l o = lone (puts text) e tt
-    acts_by (enters_loop f a b) e d m l o = lone (enters_loop f a b) e tt
-    acts_by (next_of_loop f) e d m l o = lone (next_of_loop f) e tt
-    acts_by (goes_out loops value) e d m l o = lone (goes_out loops value) e tt
-    acts_by (raises x at) e d m l o = lone (raises x at) e tt
-    acts_by (raises_again at) e d m l o = lone (raises_again at) e tt
-    acts_by (enters_block at region) e d m l o = lone (enters_block at region) e tt
-    acts_by (calls_procedure at unit p into) e d m l o = lone (calls_procedure at unit p into) e tt
-    acts_by (calls_operation at object unit p into) e d m l o = absurd o
-    acts_by (calls_own_entry at) e d m l o = lone (calls_own_entry at) e tt
-    acts_by (calls_entry owner call) e d m l o = call_good owner call d m o (not_again t.own.again ⊥ l (λ h. h))
-    acts_by (delays ms at) e d m l o = (delay_begun plan code table tasks barriers seen sound fits ways ms at n c t w is running none (not_again t.own.again ⊥ l (λ h. h)) d).framed
-    acts_by (accepts a) e d m l o = (accepts_good plan code table tasks barriers seen sound fits ways a n c t w is running none (not_again t.own.again ⊥ l (λ h. h)) unserving m.0 m.1 d.0 d.1).framed
-    acts_by (selects has_else waits at) e d m l o =
+    acts_by : (a : Asked) → asked_at code None scene t.control ≡ a → AskedBy (end_at code t.control.place).last out a → AskedMeets plan t.own c a → (is_some t.own.again ≡ true → IsLeaving a) → Framed a
+    acts_by (raises_here raise at) e d m l = lone (raises_here raise at) e tt
+    acts_by (asked.raises_in_part raise at) e d m l = (raised_in_part plan code table tasks barriers seen sound fits ways raise at n c t w is running none (not_again t.own.again ⊥ l (λ h. h)) d).framed
+    acts_by (declares up_to z) e d m l = lone (declares up_to z) e tt
+    acts_by (declares_array at z size) e d m l = array_declared at z size d e (not_again t.own.again ⊥ l (λ h. h)) (nat_le size ELEMENTS) refl
+    acts_by (declares_tasks at ts) e d m l = (declares_tasks_good plan code table tasks barriers seen sound fits ways levels limits at ts n c t w is running none (not_again t.own.again ⊥ l (λ h. h)) d).framed
+    acts_by (declares_object at k cells) e d m l = (declared plan code table tasks barriers seen sound fits ways at k cells n c t w is running none (not_again t.own.again ⊥ l (λ h. h)) d m).framed
+    acts_by ends_activation e d m l = (ends_activation_good plan code table tasks barriers seen sound fits ways n c t w is running none (not_again t.own.again ⊥ l (λ h. h)) d).framed
+    acts_by (activates at) e d m l = (activates_good plan code table tasks barriers seen sound fits ways levels at n c t w is running none (not_again t.own.again ⊥ l (λ h. h)) unserving d).framed
+    acts_by (goes_on part) e d m l = lone (goes_on part) e tt
+    acts_by (assigns target z) e d m l = lone (assigns target z) e tt
+    acts_by (puts text) e d m l = lone (puts text) e tt
+    acts_by (enters_loop f a b) e d m l = lone (enters_loop f a b) e tt
+    acts_by (next_of_loop f) e d m l = lone (next_of_loop f) e tt
+    acts_by (goes_out loops value) e d m l = lone (goes_out loops value) e tt
+    acts_by (raises x at) e d m l = lone (raises x at) e tt
+    acts_by (raises_again at) e d m l = lone (raises_again at) e tt
+    acts_by (enters_block at region) e d m l = lone (enters_block at region) e tt
+    acts_by (calls_procedure at unit p into) e d m l = lone (calls_procedure at unit p into) e tt
+    acts_by (calls_operation at object unit p into) e d m l =
+        (operation_begun plan code table tasks barriers seen sound fits ways levels at object unit p into d.0 n c t w is running none (not_again t.own.again ⊥ l (λ h. h)) unserving starts_none d.1 m.0 m.1
+        (nothing_there plan code n c t.control at object unit p into d.0 d.1 e tells)).framed
+    acts_by (calls_own_entry at) e d m l = lone (calls_own_entry at) e tt
+    acts_by (calls_entry owner call) e d m l = call_good owner call e d m (not_again t.own.again ⊥ l (λ h. h))
+    acts_by (delays ms at) e d m l = (delay_begun plan code table tasks barriers seen sound fits ways ms at n c t w is running none (not_again t.own.again ⊥ l (λ h. h)) d).framed
+    acts_by (accepts a) e d m l = (accepts_good plan code table tasks barriers seen sound fits ways a n c t w is running none (not_again t.own.again ⊥ l (λ h. h)) unserving m.0 m.1 d.0 d.1).framed
+    acts_by (selects has_else waits at) e d m l =
         (selects_good plan code table tasks barriers seen sound fits ways alternative has_else waits at n c t w is running none (not_again t.own.again ⊥ l (λ h. h)) unserving m.0 m.1 e).framed
-    acts_by (aborts ns at) e d m l o = absurd o
-    acts_by (requeues loops r) e d m l o = lone (requeues loops r) e tt
-    acts_by (ends loops) e d m l o = (ends_good plan code table tasks barriers seen sound fits ways limits alternative n c t w is running unserving starts_none (end_tells loops d) loops none d o).framed
-    acts_by (handles p) e d m l o = absurd d
-    acts_by (is_left_by p) e d m l o = absurd d
+    acts_by (aborts ns at) e d m l = (aborts_good plan code table tasks barriers seen sound fits ways ns at n c t w is running none (not_again t.own.again ⊥ l (λ h. h)) d).framed
+    acts_by (requeues loops r) e d m l = lone (requeues loops r) e tt
+    acts_by (ends loops) e d m l = (ends_good plan code table tasks barriers seen sound fits ways limits alternative n c t w is running unserving starts_none (end_tells loops d) loops none d).framed
+    acts_by (handles p) e d m l = absurd d
+    acts_by (is_left_by p) e d m l = absurd d
 
-    acts_quietly : OfTasks t.own (asked_at code None scene t.control) → Framed (asked_at code None scene t.control)
-    acts_quietly o =
+    acts_quietly : Framed (asked_at code None scene t.control)
+    acts_quietly =
         let met = subst (λ p. AskedMeets plan t.own c (asked_at code p scene t.control) × (is_some t.own.again ≡ true → IsLeaving (asked_at code p scene t.control))) none meets in
-        acts_by (asked_at code None scene t.control) refl (asks code sound scene t.control s.begins) met.0 met.1 o
+        acts_by (asked_at code None scene t.control) refl (asks code sound scene t.control s.begins) met.0 met.1
 
   -- with an exception pending
-  acts_raised : (p : Pending) → t.own.pending ≡ Some p → ComingTells n c (Comes (Some p)) → OfTasks t.own (asked_at code (Some p) scene t.control) → Framed (asked_at code (Some p) scene t.control)
-  acts_raised p pending tells o = by (is_there (handler_at code p.exception t.control)) refl
+  acts_raised : (p : Pending) → t.own.pending ≡ Some p → ComingTells n c (Comes (Some p)) → Framed (asked_at code (Some p) scene t.control)
+  acts_raised p pending tells = by (is_there (handler_at code p.exception t.control)) refl
     where
       met : (b : Bool) → is_there (handler_at code p.exception t.control) ≡ b → is_some t.own.again ≡ true → IsLeaving (handled_or_left b p)
       met b e =
@@ -146,12 +154,11 @@ module _ (plan : Plan) (code : Flat) (table : List Counts) (tasks barriers seen 
           (handled_step plan code table tasks barriers seen limits alternative n c t p sound fits w.spots is running pending e meets w.framed)
       by false e =
           subst (λ x. Framed (handled_or_left x p)) (sym e)
-          (left_good plan code table tasks barriers seen sound fits ways limits alternative n c t w is running unserving starts_none (subst (λ x. ComingTells n c (coming_raised x)) e tells) p pending (not_again t.own.again ⊥ (met false e) (λ h. h))
-          (subst (λ x. OfTasks t.own (handled_or_left x p)) e o)).framed
+          (left_good plan code table tasks barriers seen sound fits ways limits alternative n c t w is running unserving starts_none (subst (λ x. ComingTells n c (coming_raised x)) e tells) p pending (not_again t.own.again ⊥ (met false e) (λ h. h))).framed
 
-  pub acts_good : ComingTells n c (Comes t.own.pending) → (in_action n c ≡ false → is_leave (Comes t.own.pending) t.own ≡ false → t.own.abnormal ≡ false) → OfTasks t.own (asked_at code t.own.pending scene t.control) → Framed (asked_at code t.own.pending scene t.control)
-  acts_good tells well o = by t.own.pending refl tells well o
+  pub acts_good : ComingTells n c (Comes t.own.pending) → (in_action n c ≡ false → is_leave (Comes t.own.pending) t.own ≡ false → t.own.abnormal ≡ false) → Framed (asked_at code t.own.pending scene t.control)
+  acts_good tells well = by t.own.pending refl tells well
     where
-      by : (p : Option Pending) → t.own.pending ≡ p → ComingTells n c (Comes p) → (in_action n c ≡ false → is_leave (Comes p) t.own ≡ false → t.own.abnormal ≡ false) → OfTasks t.own (asked_at code p scene t.control) → Framed (asked_at code p scene t.control)
-      by None e tells well o = acts_quietly e tells well o
-      by (Some p) e tells well o = acts_raised p e tells o
+      by : (p : Option Pending) → t.own.pending ≡ p → ComingTells n c (Comes p) → (in_action n c ≡ false → is_leave (Comes p) t.own ≡ false → t.own.abnormal ≡ false) → Framed (asked_at code p scene t.control)
+      by None e tells well = acts_quietly e tells well
+      by (Some p) e tells well = acts_raised p e tells

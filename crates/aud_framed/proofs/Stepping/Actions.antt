@@ -41,7 +41,7 @@ module _ (plan : Plan) (c : All Spot) (objects : List Object) (still : (i : ℕ)
   EachKeeps n [] = Unit {0}
   EachKeeps n (i ∷ is) = KeepsActs n (object_of i c) (object_at i objects) × EachKeeps n is
 
-  fits_still : (o : Owner) (entry : ℕ) → EntryFits plan c o entry → EntryFits plan (with_objects objects c) o entry
+  pub fits_still : (o : Owner) (entry : ℕ) → EntryFits plan c o entry → EntryFits plan (with_objects objects c) o entry
   fits_still (owner.Task m) entry h = h
   fits_still (owner.Object i) entry h = let k = still i h.0.1 in ((h.0.0, k.0), h.1 ∙ ap (λ ds. length ds) (sym k.1))
 
@@ -128,7 +128,7 @@ module _ (plan : Plan) (code : Flat) (seen : List ℕ) (object : ℕ) (g : List 
   abbrev new : List Object
   new = changed object (λ o. record o { actions = g o.actions }) c.shared.objects
 
-  still_there : (i : ℕ) → i < length c.shared.objects → (i < length (changed object (λ o. record o { actions = g o.actions }) c.shared.objects)) × ((object_at i (changed object (λ o. record o { actions = g o.actions }) c.shared.objects)).display ≡ (object_of i c).display)
+  pub still_there : (i : ℕ) → i < length c.shared.objects → (i < length (changed object (λ o. record o { actions = g o.actions }) c.shared.objects)) × ((object_at i (changed object (λ o. record o { actions = g o.actions }) c.shared.objects)).display ≡ (object_of i c).display)
   still_there i less = (
     subst (λ k. i < k) (changed_count object (λ o. record o { actions = g o.actions }) c.shared.objects) less,
     changed_keeps (λ o p. p.display ≡ o.display) object (λ o. record o { actions = g o.actions }) c.shared.objects i (λ o. refl) (λ e. refl),

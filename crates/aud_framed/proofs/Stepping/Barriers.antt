@@ -119,7 +119,7 @@ module _ (plan : Plan) (code : Flat) (table : List Counts) (tasks barriers seen 
         changed_serviced plan code table tasks barriers seen sound fits ways n object id c t w is unmade still holds unserved selected its may f (suc c.shared.arrivals) at
         (call_framed plan code seen id f c
         (free plan code table tasks barriers seen sound fits ways n object id c t w is unmade still holds unserved selected its may)
-        (ap is_call_over selected) (λ a. refl) refl (λ q. subst (λ o. IsEntryOf plan c o (call_of id c).entry) (sym its) entry.0) (λ q ill. healthy ill) w.framed)
+        (ap is_call_over selected) (λ a. refl) (λ o e. e) (λ h. (w.framed.calls id (ap is_call_over selected)).1) (λ q. subst (λ o. IsEntryOf plan c o (call_of id c).entry) (sym its) entry.0) (λ q ill. healthy ill) w.framed)
         (on_still plan code table tasks barriers seen sound fits ways n object id c t w is unmade still holds unserved selected its may f (λ a. refl) (λ a e. e))
 
     pub barrier_good : (b : Result Bool Raise) → Kept (effect.barrier_met (orders plan code table tasks barriers seen sound fits ways) plan (flat_controls plan code).barrier b at object id n c)

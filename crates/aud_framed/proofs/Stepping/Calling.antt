@@ -2,46 +2,39 @@
 use Rattle.std.proofs.Common.{◌≡◌, ℕ, List, [], ◌∷◌, ◌++◌, length, Option, Some, None, Bool, true, false, refl, sym, ap, ◌∙◌, subst, inl, if◌then◌else◌, slice_get}
 use Rattle.std.proofs.lemmas.Bool.{and_parts, false≢true, true≢false}
 use Rattle.std.specs.Prelude.{◌&&◌, filter, nat_eq, not}
-use Rattle.aud_text.specs.declared.place.Pos.{Pos}
 use Rattle.aud_text.specs.declared.raise.Raise.TheVariants.{Program, Tasking}
 use Rattle.aud_typed.specs.declared.program.Exception.TheVariants.{Predefined}
 use Rattle.aud_typed.specs.Tree.{Plan}
-use Rattle.aud_meaning.specs.declared.state.CallState.TheVariants.{Selected, Done}
+use Rattle.aud_meaning.specs.declared.state.CallState.TheVariants.{Selected}
 use Rattle.aud_meaning.specs.declared.state.OpenAccept.{OpenAccept}
 use Rattle.aud_meaning.specs.declared.state.Owner.TheVariants as owner
-use Rattle.aud_meaning.specs.declared.state.Serving.{Serving}
 use Rattle.aud_meaning.specs.declared.state.Status.{Status}
 use Rattle.aud_meaning.specs.declared.state.Status.TheVariants.{Created, Running, Activating, Accepting, Delaying, Calling, Completed, Terminated}
 use Rattle.aud_meaning.specs.Configuration.{Own, Call, TaskAt, All}
 use Rattle.aud_meaning.specs.Control.{Called}
-use Rattle.aud_meaning.specs.Parts.{alternative_of, arrives, blocks, call_of, changed, in_action, is_accepting, is_callable, is_over, new_call, no_waits, on_control, open_alternatives, own_of, raised_at, stands_at_call}
+use Rattle.aud_meaning.specs.Parts.{alternative_of, arrives, blocks, call_of, changed, in_action, is_accepting, is_callable, new_call, no_waits, on_control, open_alternatives, own_of, raised_at, stands_at_call}
 use Rattle.aud_meaning.specs.Step.{call_record}
 use Rattle.aud_meaning.specs.Tasks as effect
-use Rattle.aud_meaning.proofs.Open.Tasks.{last_call}
 use Rattle.aud_code.specs.Places.{Spot}
 use Rattle.aud_code.specs.Flat.{Flat, Does, end_at, flat_controls}
-use Rattle.aud_code.specs.Frames.{Found}
 use Rattle.aud_code.specs.Instruction.{CallKind, CallTask}
 use Rattle.aud_code.specs.Seen.{IsSeen}
 use Rattle.aud_code.specs.Sound.{Counts, IsSound}
 use Rattle.aud_over.specs.Over.{is_call_over}
-use Rattle.aud_framed.specs.Held.{IsCall, StandsAt}
+use Rattle.aud_framed.specs.Held.{IsCall}
 use Rattle.aud_framed.specs.Waiting.{is_of_object}
-use Rattle.aud_framed.specs.Calls.{CallerWaits, IsEntryOf, Serves, objects_in}
-use Rattle.aud_framed.specs.Ways.{StandsAtStep}
+use Rattle.aud_framed.specs.Calls.{IsEntryOf}
 use Rattle.aud_framed.specs.Stepping.{HasWays}
 use Rattle.aud_framed.proofs.Stepping.Activated.{other_task}
-use Rattle.aud_framed.proofs.Stepping.Arriving.{arrived_framed, made_framed, none_there, unserved_other}
+use Rattle.aud_framed.proofs.Stepping.Arriving.{arrived_framed}
 use Rattle.aud_framed.proofs.Stepping.Beginning.{goes_on_good}
-use Rattle.aud_framed.proofs.Stepping.Blocks.{own_changed, raised_good}
+use Rattle.aud_framed.proofs.Stepping.Blocks.{raised_good}
 use Rattle.aud_framed.proofs.Stepping.Calls.{IsUnserved, with_calls}
-use Rattle.aud_framed.proofs.Stepping.Delays.{no_change, outside, running_outside}
 use Rattle.aud_framed.proofs.Stepping.Ending.{Good, got_there}
-use Rattle.aud_framed.proofs.Stepping.Lone.{at_step}
-use Rattle.aud_framed.proofs.Stepping.Parts.{Follows, own_got}
+use Rattle.aud_framed.proofs.Stepping.Making as making
+use Rattle.aud_framed.proofs.Stepping.Parts.{own_got}
 use Rattle.aud_framed.proofs.Stepping.Refusing.{orders}
 use Rattle.aud_framed.proofs.Stepping.Rendezvous.{AllOpenHere, OpensHere, rendezvous_good, waits_here}
-use Rattle.aud_framed.proofs.Stepping.Tasks.{task_good}
 
 is_it_accepting : (s : Status) → is_accepting s ≡ true → s ≡ Accepting
 is_it_accepting Created h = absurd (false≢true h)
@@ -114,24 +107,6 @@ module _ (plan : Plan) (code : Flat) (table : List Counts) (tasks barriers seen 
           (some_open (λ (x : OpenAccept). nat_eq x.entry entry) x.0 x.0.own.waits.accepts (waits_here plan code table tasks barriers seen sound fits ways m c x.0 w x.1 accepting)) in
           record { task = x.0; is = x.1; accepting = accepting; opens = one_open alternative x.0 a (a ∷ more) all.0 all }
 
-  -- Its caller waits.
-
-  calling : (c : All Spot) (n id : ℕ) (own : Own) (at : Pos) → own.status ≡ Running → own.again ≡ None → own.restart ≡ None → own.serving ≡ None → objects_in own.opened ≡ [] → Follows plan c n own (record (blocks Calling at no_waits own) { call = id })
-  calling c n id own at running still starts_none serves_none none_around = record {
-    live = λ h. ap is_over running;
-    waits = λ i live its h. absurd (running_outside _ own running none_around h.1);
-    serves = λ live s. record {
-      opened = s.opened;
-      calls = s.calls;
-      objects = s.objects;
-      serving = λ x e. let wrong : None ≡ Some x = sym serves_none ∙ e in absurd cc;
-      again = λ x e. let wrong : None ≡ Some x = sym still ∙ e in absurd cc;
-      restart = λ x e. let wrong : None ≡ Some x = sym starts_none ∙ e in absurd cc;
-      withdraw = λ o e. let h = (s.withdraw o e).0 in absurd (running_outside h.0 own running none_around h.1);
-    };
-    abnormal = λ h. h;
-  }
-
   module _ (alternative : Option ℕ) (m n : ℕ) (call : Called) (form : CallKind) (c : All Spot) (t : TaskAt Spot) (w : Kept c) (is : slice_get c.tasks n ≡ Some t) (running : t.own.status ≡ Running) (none : t.own.pending ≡ None) (still : t.own.again ≡ None) (starts_none : t.own.restart ≡ None) (its : is_of_object plan call.entry ≡ false) (line : (end_at code t.control.place).last ≡ Does (CallTask call.entry form)) where
     abbrev x : Call
     x = call_record n (owner.Task m) call
@@ -140,64 +115,26 @@ module _ (plan : Plan) (code : Flat) (table : List Counts) (tasks barriers seen 
     id = length c.shared.calls
 
     module _ (free : in_action n c ≡ false) (well : t.own.abnormal ≡ false) where
-      s : StandsAtStep code seen t.control.place (end_at code t.control.place) t.control.returns t.own.display t.own.opened
-      s = at_step plan code seen n c t w.spots is running none w.framed
-
-      serves : Serves plan c n t.own
-      serves =
-          subst (λ (o : Own). Serves plan c n o) (own_got n c.tasks t is)
-          (w.framed.serves n (ap (λ (o : Own). is_over o.status) (own_got n c.tasks t is) ∙ ap is_over running))
-
-      none_around : objects_in t.own.opened ≡ []
-      none_around = outside plan c n free t.own.opened serves.opened
-
-      serves_none : t.own.serving ≡ None
-      serves_none = by t.own.serving refl
-        where
-          by : (o : Option Serving) → t.own.serving ≡ o → o ≡ None
-          by None e = refl
-          by (Some y) e = absurd (no_change plan c n free y.object (serves.serving y e).0)
-
-      withdraws_none : t.own.withdraw ≡ None
-      withdraws_none = by t.own.withdraw refl
-        where
-          by : (o : Option ℕ) → t.own.withdraw ≡ o → o ≡ None
-          by None e = refl
-          by (Some o) e = let h = (serves.withdraw o e).0 in absurd (running_outside h.0 t.own running none_around h.1)
+      calls : IsCall (end_at code t.control.place).last
+      calls = inl (call.entry, form, line)
 
       abbrev waits : TaskAt Spot → TaskAt Spot
       waits u = record u { own = record (blocks Calling call.at no_waits u.own) { call = length c.shared.calls } }
 
-      abbrev c1 : All Spot
-      c1 = stands_at_call n (length c.shared.calls) call.at c
-
-      waits_good : Kept c1
-      waits_good =
-          task_good plan code table tasks barriers seen sound fits ways n waits c t is
-          (subst (λ p. StandsAt code.lines seen p t.control t.own.display t.own.opened) (sym none) s.stands, none, subst (λ o. Found o (λ l. IsCall l.last)) (sym s.is) (inl (call.entry, form, line)))
-          (calling c n id t.own call.at running still starts_none serves_none none_around) (λ u h. h) w
-
-      own_is : own_of n c1 ≡ (waits t).own
-      own_is = own_changed n waits c.tasks t is
-
       abbrev d : All Spot
-      d = new_call x c1
+      d = new_call x (stands_at_call n (length c.shared.calls) call.at c)
+
+      own_is : own_of n d ≡ (waits t).own
+      own_is = making.own_is plan code table tasks barriers seen sound fits ways (owner.Task m) n call c t w is running none still starts_none calls free
 
       made : Kept d
-      made = record {
-        framed =
-            made_framed plan code seen x c1 refl (subst (λ (o : Own). CallerWaits id x o) (sym own_is) (refl, inl refl)) (ap (λ (o : Own). o.serving) own_is ∙ serves_none) (ap (λ (o : Own). o.withdraw) own_is ∙ withdraws_none) (ap (λ (o : Own). objects_in o.opened) own_is ∙ none_around)
-            waits_good.framed;
-        spots = waits_good.spots;
-      }
+      made = making.made plan code table tasks barriers seen sound fits ways (owner.Task m) n call c t w is running none still starts_none calls free
 
       newest : call_of id d ≡ x
-      newest = last_call c.shared.calls x
+      newest = making.newest plan code table tasks barriers seen sound fits ways (owner.Task m) n call c t w is running none still starts_none calls free
 
       unserved : IsUnserved id d
-      unserved k alive =
-          unserved_other plan c1 k id (own_of k c1) (λ e. let wrong : Done ≡ Selected = sym (none_there c.shared.calls) ∙ e in absurd cc)
-          (waits_good.framed.serves k alive)
+      unserved = making.unserved plan code table tasks barriers seen sound fits ways (owner.Task m) n call c t w is running none still starts_none calls free
 
       -- it is queued
       queued_good : Kept (effect.calls_open (orders plan code table tasks barriers seen sound fits ways) plan (flat_controls plan code).barrier alternative [] x m c)

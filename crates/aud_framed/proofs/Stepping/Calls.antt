@@ -35,18 +35,22 @@ module _ (plan : Plan) (c : All Spot) (calls : List Call) (n : ℕ) where
   abbrev pub LiveSame : Type 0
   LiveSame = (i : ℕ) → is_call_over (call_at i calls).state ≡ false → (is_call_over (call_of i c).state ≡ false) × ((call_at i calls).owner ≡ (call_of i c).owner) × ((call_at i calls).caller ≡ (call_of i c).caller)
 
-  calls_on : (object : ℕ) → LiveSame → CallsOn plan c n object → CallsOn plan (with_calls calls c) n object
-  calls_on object same h i live mine = let k = same i live in k.1 ∙ h i k.0 (sym k.2 ∙ mine)
+  -- or have no object's before
+  abbrev pub LiveKept : Type 0
+  LiveKept = (i : ℕ) → is_call_over (call_at i calls).state ≡ false → (is_call_over (call_of i c).state ≡ false) × ((object : ℕ) → (call_of i c).owner ≡ owner.Object object → (call_at i calls).owner ≡ owner.Object object) × ((call_at i calls).caller ≡ (call_of i c).caller)
+
+  calls_on : (object : ℕ) → LiveKept → CallsOn plan c n object → CallsOn plan (with_calls calls c) n object
+  calls_on object same h i live mine = let k = same i live in k.1 object (h i k.0 (sym k.2 ∙ mine))
 
   -- one that is over stays so
-  pub past : LiveSame → length c.shared.calls ≡ length calls → (id : ℕ) → IsPast plan c id → IsPast plan (with_calls calls c) id
+  pub past : LiveKept → length c.shared.calls ≡ length calls → (id : ℕ) → IsPast plan c id → IsPast plan (with_calls calls c) id
   past same counts id h = (subst (λ k. id < k) counts h.0, by (is_call_over (call_at id calls).state) refl)
     where
       by : (b : Bool) → is_call_over (call_at id calls).state ≡ b → b ≡ true
       by true e = refl
       by false e = absurd (true≢false (sym h.1 ∙ (same id e).0))
 
-  pub serves_in : LiveSame → (os : List Opened) → CallsSame c calls (calls_in os) → ServesIn plan c n os → ServesIn plan (with_calls calls c) n os
+  pub serves_in : LiveKept → (os : List Opened) → CallsSame c calls (calls_in os) → ServesIn plan c n os → ServesIn plan (with_calls calls c) n os
   serves_in live [] s h = tt
   serves_in live (o ∷ os) s h = by o.purpose s h (serves_in live os)
     where
@@ -82,12 +86,12 @@ module _ (plan : Plan) (c : All Spot) (calls : List Call) (n : ℕ) where
           fits (owner.Task m) h = h
           fits (owner.Object m) h = h
 
-  may_serve : (object : ℕ) (own : Own) → LiveSame → (own.status ≡ Running) ⊎ ((own.status ≡ Calling) × CallsOn plan c n object) → (own.status ≡ Running) ⊎ ((own.status ≡ Calling) × CallsOn plan (with_calls calls c) n object)
+  may_serve : (object : ℕ) (own : Own) → LiveKept → (own.status ≡ Running) ⊎ ((own.status ≡ Calling) × CallsOn plan c n object) → (own.status ≡ Running) ⊎ ((own.status ≡ Calling) × CallsOn plan (with_calls calls c) n object)
   may_serve object own same (inl h) = inl h
   may_serve object own same (inr h) = inr (h.0, calls_on object same h.1)
 
-  pub serves_calls : (own : Own) → length c.shared.calls ≡ length calls → LiveSame → CallsSame c calls (with_restarted own.restart (calls_in own.opened)) → Serves plan c n own → Serves plan (with_calls calls c) n own
-  serves_calls own counts live same s = record {
+  pub serves_live : (own : Own) → length c.shared.calls ≡ length calls → LiveKept → CallsSame c calls (with_restarted own.restart (calls_in own.opened)) → Serves plan c n own → Serves plan (with_calls calls c) n own
+  serves_live own counts live same s = record {
     opened = serves_in live own.opened (opened_same own.restart (calls_in own.opened) same) s.opened;
     calls = s.calls;
     objects = s.objects;
@@ -107,6 +111,9 @@ module _ (plan : Plan) (c : All Spot) (calls : List Call) (n : ℕ) where
         let h = s.withdraw o e in
         (h.0, (λ i alive mine. let k = live i alive in h.1.0 i k.0 (sym k.2 ∙ mine), (past live counts own.call h.1.1.0, h.1.1.1)));
   }
+
+  pub serves_calls : (own : Own) → length c.shared.calls ≡ length calls → LiveSame → CallsSame c calls (with_restarted own.restart (calls_in own.opened)) → Serves plan c n own → Serves plan (with_calls calls c) n own
+  serves_calls own counts live same s = serves_live own counts (λ i alive. let k = live i alive in (k.0, λ o e. k.1 ∙ e, k.2)) same s
 
 -- One call changes.
 

@@ -26,7 +26,7 @@ accepting_rests Calling h = absurd (false≢true h)
 accepting_rests Completed h = tt
 accepting_rests Terminated h = tt
 
-created_rests : (s : Status) → is_created s ≡ true → Rests s
+pub created_rests : (s : Status) → is_created s ≡ true → Rests s
 created_rests Created h = tt
 created_rests Running h = absurd (false≢true h)
 created_rests Activating h = absurd (false≢true h)

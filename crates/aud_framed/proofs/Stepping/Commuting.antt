@@ -16,7 +16,7 @@ use Rattle.aud_meaning.specs.Parts.{calls_on_task, changed, depends, fails, no_w
 use Rattle.aud_meaning.specs.Tasks as effect
 use Rattle.aud_code.specs.Places.{Spot}
 
-commute : (n m : ℕ) (f g : TaskAt Spot → TaskAt Spot) (ts : List (TaskAt Spot)) → ((t : TaskAt Spot) → g (f t) ≡ f (g t)) → changed m g (changed n f ts) ≡ changed n f (changed m g ts)
+pub commute : (n m : ℕ) (f g : TaskAt Spot → TaskAt Spot) (ts : List (TaskAt Spot)) → ((t : TaskAt Spot) → g (f t) ≡ f (g t)) → changed m g (changed n f ts) ≡ changed n f (changed m g ts)
 commute n m f g [] e = refl
 commute zero zero f g (t ∷ ts) e = ap (λ u. u ∷ ts) (e t)
 commute zero (suc m) f g (t ∷ ts) e = refl

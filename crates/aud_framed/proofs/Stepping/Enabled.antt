@@ -17,6 +17,7 @@ use Rattle.aud_meaning.proofs.Open.Picked.{AllMoves, at_number}
 use Rattle.aud_code.specs.Places.{Spot}
 use Rattle.aud_code.specs.Flat.{flat_controls}
 use Rattle.aud_framed.specs.Enabled.{ComingTells, EnabledLaw, IsIdleOwner, TurnTells}
+use Rattle.aud_framed.proofs.Stepping.Eligible.{serve_tells}
 
 module _ (P : Move → Type 0) where
   each_move : ((m : Move) → P m) → (ms : List Move) → AllMoves P ms
@@ -59,31 +60,31 @@ module _ (plan : Plan) (barrier : ℕ → Sight → Result Bool Raise) (s : All 
     idle_same (owner.Task m) = refl
     idle_same (owner.Object o) = refl
 
-    call_tells : (id : ℕ) → AllMoves (λ m. TurnTells n s (cancelling id)) (turn_moves plan barrier (cancelling id) n s)
+    call_tells : (id : ℕ) → AllMoves (λ m. TurnTells plan m.alternative n s (cancelling id)) (turn_moves plan barrier (cancelling id) n s)
     call_tells id = by (is_queued (call_of id s).state && not (call_of id s).stays && owner_idle plan barrier (call_of id s).owner s) refl
       where
-        by : (b : Bool) → is_queued (call_of id s).state && not (call_of id s).stays && owner_idle plan barrier (call_of id s).owner s ≡ b → AllMoves (λ m. TurnTells n s (cancelling id)) (map (λ time. own_move n) (filter (λ time. nat_le time s.clock) (if b then call_time_by plan barrier (call_of id s).form else [])))
+        by : (b : Bool) → is_queued (call_of id s).state && not (call_of id s).stays && owner_idle plan barrier (call_of id s).owner s ≡ b → AllMoves (λ m. TurnTells plan m.alternative n s (cancelling id)) (map (λ time. own_move n) (filter (λ time. nat_le time s.clock) (if b then call_time_by plan barrier (call_of id s).form else [])))
         by true e = each_move _ (λ m. ap (λ i. is_queued (call_of id s).state && not (call_of id s).stays && i) (sym (idle_same (call_of id s).owner)) ∙ e) _
         by false e = tt
 
-    turn_tells : (u : Turn) → AllMoves (λ m. TurnTells n s u) (turn_moves plan barrier u n s)
+    turn_tells : (u : Turn) → AllMoves (λ m. TurnTells plan m.alternative n s u) (turn_moves plan barrier u n s)
     turn_tells resting = tt
     turn_tells closing = only_tells _ (Closable (body_master (own_of n s)) s) (λ h. h)
     turn_tells completing = (tt, tt)
     turn_tells (withdrawing object) = only_tells _ (is_idle (object_of object s)) (λ h. h)
-    turn_tells (serving v) = each_move _ (λ m. tt) _
+    turn_tells (serving v) = serve_tells plan barrier n v s
     turn_tells (restarting r) = only_tells _ (not (in_the_way n false (object_of r.object s))) (λ h. not_so (in_the_way n false (object_of r.object s)) h)
     turn_tells (expiring ds) = each_move _ (λ m. tt) _
     turn_tells (cancelling id) = call_tells id
     turn_tells (acting next) = next_tells next
 
   abbrev pub Told : Move → Type 0
-  Told m = TurnTells m.task s (turn_at plan barrier (slice_get s.tasks m.task) m.task s)
+  Told m = TurnTells plan m.alternative m.task s (turn_at plan barrier (slice_get s.tasks m.task) m.task s)
 
-  task_told : (n : ℕ) (u : Turn) (ms : List Move) → turn_at plan barrier (slice_get s.tasks n) n s ≡ u → Of n ms → AllMoves (λ m. TurnTells n s u) ms → AllMoves Told ms
+  task_told : (n : ℕ) (u : Turn) (ms : List Move) → turn_at plan barrier (slice_get s.tasks n) n s ≡ u → Of n ms → AllMoves (λ m. TurnTells plan m.alternative n s u) ms → AllMoves Told ms
   task_told n u [] e o h = tt
   task_told n u (m ∷ ms) e o h =
-      (subst (λ i. TurnTells i s (turn_at plan barrier (slice_get s.tasks i) i s)) (sym o.0) (subst (λ v. TurnTells n s v) (sym e) h.0), task_told n u ms e o.1 h.1)
+      (subst (λ i. TurnTells plan m.alternative i s (turn_at plan barrier (slice_get s.tasks i) i s)) (sym o.0) (subst (λ v. TurnTells plan m.alternative n s v) (sym e) h.0), task_told n u ms e o.1 h.1)
 
   abbrev Found : ℕ → List (TaskAt Seen) → (ℕ → Option (TaskAt Seen)) → Type 0
   Found n [] look = Unit {0}
@@ -141,21 +142,21 @@ module _ (plan : Plan) (k : Controls Spot) (c : All Spot) where
   idle_there n (owner.Task m) = refl
   idle_there n (owner.Object m) = refl
 
-  pub tells_there : (n : ℕ) (u : Turn) → TurnTells n (seen plan k c) u → TurnTells n c u
-  tells_there n resting h = tt
-  tells_there n closing h =
+  pub tells_there : (alternative : Option ℕ) (n : ℕ) (u : Turn) → TurnTells plan alternative n (seen plan k c) u → TurnTells plan alternative n c u
+  tells_there alternative n resting h = tt
+  tells_there alternative n closing h =
       sym (closable_seen (body_master (own_of n c)))
       ∙ (ap (λ (o : Own). Closable (body_master o) (seen plan k c)) (sym (own_seen n)) ∙ h)
-  tells_there n completing h = tt
-  tells_there n (withdrawing object) h = h
-  tells_there n (serving s) h = tt
-  tells_there n (restarting r) h = h
-  tells_there n (expiring ds) h = tt
-  tells_there n (cancelling id) h = ap (λ i. is_queued (call_of id c).state && not (call_of id c).stays && i) (sym (idle_there n (call_of id c).owner)) ∙ h
-  tells_there n (acting next) h = coming_there n next h
+  tells_there alternative n completing h = tt
+  tells_there alternative n (withdrawing object) h = h
+  tells_there alternative n (serving s) h = h
+  tells_there alternative n (restarting r) h = h
+  tells_there alternative n (expiring ds) h = tt
+  tells_there alternative n (cancelling id) h = ap (λ i. is_queued (call_of id c).state && not (call_of id c).stays && i) (sym (idle_there n (call_of id c).owner)) ∙ h
+  tells_there alternative n (acting next) h = coming_there n next h
 
 pub enabled_tells : EnabledLaw
 enabled_tells plan code c number m is =
     let k = flat_controls plan code in
-    tells_there plan k c m.task _
+    tells_there plan k c m.alternative m.task _
     (at_number (Told plan k.barrier (seen plan k c)) (moves_at plan k c) number m is (all_told plan k.barrier (seen plan k c)))

@@ -51,7 +51,7 @@ idle_free n o h = ap (λ xs. any (λ (a : Action). not (nat_eq a.task n) && not 
 idle_unused : (n : ℕ) (o : Object) → is_idle o ≡ true → acts_on n o ≡ false
 idle_unused n o h = ap (λ xs. any (λ (a : Action). nat_eq a.task n) xs) (none_there o h)
 
-withdrawing_framed : (plan : Plan) (code : Flat) (seen : List ℕ) (x : Option ℕ) (s : Status) (t : TaskAt Spot) → TaskFramed plan code seen s t → TaskFramed plan code seen s (record t { own = record t.own { withdraw = x } })
+pub withdrawing_framed : (plan : Plan) (code : Flat) (seen : List ℕ) (x : Option ℕ) (s : Status) (t : TaskAt Spot) → TaskFramed plan code seen s t → TaskFramed plan code seen s (record t { own = record t.own { withdraw = x } })
 withdrawing_framed plan code seen x Created t h = record { place = h.place; display = h.display; opened = h.opened; none = h.none }
 withdrawing_framed plan code seen x Running t h = h
 withdrawing_framed plan code seen x Activating t h = h

@@ -6,7 +6,7 @@ use Rattle.aud_typed.specs.declared.program.Exception.{Exception}
 use Rattle.aud_typed.specs.Tree.{Plan}
 use Rattle.aud_meaning.specs.Configuration.{Purpose, for_body, for_block, for_loop, for_procedure, for_operation, for_entry, for_accept, Opened, Own, TaskAt, All}
 use Rattle.aud_meaning.specs.Control.{Scene}
-use Rattle.aud_meaning.specs.Effects.{changed_first, closed_by, is_loop, out_of_loops, out_of_loops_by}
+use Rattle.aud_meaning.specs.Effects.{changed_first, is_loop, out_of_loops, out_of_loops_by}
 use Rattle.aud_meaning.specs.Effects as effects
 use Rattle.aud_meaning.specs.Orders.{carried_out}
 use Rattle.aud_meaning.specs.Run.{scene_of}

@@ -22,12 +22,12 @@ use Rattle.aud_framed.specs.Held.{Entered, Holds, IsOpenAt, IsOutermost, MayPend
 use Rattle.aud_framed.specs.Waiting.{TaskFramed}
 use Rattle.aud_framed.specs.Calls.{AgainFits, RequeueFits}
 use Rattle.aud_framed.specs.Enabled.{ComingTells}
-use Rattle.aud_framed.specs.Turns.{EndsTask}
 use Rattle.aud_framed.specs.Ways.{LeadsTo, LeavesConstruct, Pends, StandsAtStep}
 use Rattle.aud_framed.specs.Stepping.{AskedBy, HasWays}
 use Rattle.aud_framed.proofs.Exceptions.{left_framed}
 use Rattle.aud_framed.proofs.Steps.{here, led}
 use Rattle.aud_framed.proofs.Stepping.AcceptEnds.{accept_ended_good, accept_left_good}
+use Rattle.aud_framed.proofs.Stepping.AgainEnds.{accept_again_good}
 use Rattle.aud_framed.proofs.Stepping.Blocks.{block_ended}
 use Rattle.aud_framed.proofs.Stepping.Ending.{Good}
 use Rattle.aud_framed.proofs.Stepping.Ends.{left_by_exception, procedure_ended}
@@ -205,49 +205,41 @@ module _ (plan : Plan) (code : Flat) (table : List Counts) (tasks barriers seen 
 
     -- The leaving step at an end.
 
-    unit_ended : (o : Opened) (os : List Opened) (next : ℕ) → t.own.pending ≡ None → t.own.opened ≡ o ∷ os → (end_at code t.control.place).last ≡ Ends construct.Unit next → (p : Purpose) → o.purpose ≡ p → KindOf construct.Unit p os → EndsTask t.own p → Kept (done (orders plan code table tasks barriers seen sound fits ways) plan (flat_controls plan code).barrier limits alternative (ends 0) n c)
-    unit_ended o os next none opened line for_body e kind its =
+    unit_ended : (o : Opened) (os : List Opened) (next : ℕ) → t.own.pending ≡ None → t.own.opened ≡ o ∷ os → (end_at code t.control.place).last ≡ Ends construct.Unit next → (p : Purpose) → o.purpose ≡ p → KindOf construct.Unit p os → Kept (done (orders plan code table tasks barriers seen sound fits ways) plan (flat_controls plan code).barrier limits alternative (ends 0) n c)
+    unit_ended o os next none opened line for_body e kind =
         body_ended plan code table tasks barriers seen sound fits ways limits alternative n c t o w is running
         (ap (λ (x : Own). x.opened) (no_loops t.own o os opened (ap is_loop e)) ∙ (opened ∙ ap (λ ps. o ∷ ps) kind)) e
-    unit_ended o os next none opened line for_block e kind its = absurd kind
-    unit_ended o os next none opened line for_loop e kind its = absurd kind
-    unit_ended o os next none opened line (for_procedure r) e kind its =
+    unit_ended o os next none opened line for_block e kind = absurd kind
+    unit_ended o os next none opened line for_loop e kind = absurd kind
+    unit_ended o os next none opened line (for_procedure r) e kind =
         procedure_ended plan code table tasks barriers seen sound fits ways limits alternative n c t o os r next w is running none (no_again o os r opened e) opened e line
         (closable_of n c t.own o os own_is (ap (λ (x : Own). x.opened) (no_loops t.own o os opened (ap is_loop e)) ∙ opened) (inr (r, e)) tells)
-    unit_ended o os next none opened line (for_operation m r) e kind its =
+    unit_ended o os next none opened line (for_operation m r) e kind =
         ended_operation plan code table tasks barriers seen sound fits ways limits alternative n c t o os m r next w is running none (in_operation o os m r opened e) unserving unmade opened e line
-    unit_ended o os next none opened line (for_entry m id served back) e kind its =
+    unit_ended o os next none opened line (for_entry m id served back) e kind =
         ended_entry plan code table tasks barriers seen sound fits ways limits alternative n c t o os m id served back next w is running none unserving unmade opened e line
-    unit_ended o os next none opened line (for_accept id) e kind its = absurd kind
+    unit_ended o os next none opened line (for_accept id) e kind = absurd kind
 
-    ended : (c' : Construct) (o : Opened) (os : List Opened) (next : ℕ) → t.own.pending ≡ None → t.own.opened ≡ o ∷ os → (end_at code t.control.place).last ≡ Ends c' next → KindOf c' o.purpose os → EndsTask t.own o.purpose → Kept (done (orders plan code table tasks barriers seen sound fits ways) plan (flat_controls plan code).barrier limits alternative (ends 0) n c)
-    ended construct.Unit o os next none opened line kind its = unit_ended o os next none opened line o.purpose refl kind its
-    ended construct.Block o os next none opened line kind its =
+    ended : (c' : Construct) (o : Opened) (os : List Opened) (next : ℕ) → t.own.pending ≡ None → t.own.opened ≡ o ∷ os → (end_at code t.control.place).last ≡ Ends c' next → KindOf c' o.purpose os → Kept (done (orders plan code table tasks barriers seen sound fits ways) plan (flat_controls plan code).barrier limits alternative (ends 0) n c)
+    ended construct.Unit o os next none opened line kind = unit_ended o os next none opened line o.purpose refl kind
+    ended construct.Block o os next none opened line kind =
         block_ended plan code table tasks barriers seen sound fits ways limits alternative n c t o os next w is running none opened kind line
         (closable_of n c t.own o os own_is (ap (λ (x : Own). x.opened) (no_loops t.own o os opened (ap is_loop kind)) ∙ opened) (inl kind) tells)
-    ended construct.Accept o os next none opened line kind its =
-        accept_ended_good plan code table tasks barriers seen sound fits ways limits alternative n c t o os kind.0 next w is running none (subst (λ p. EndsTask t.own p) kind.1 its) opened kind.1 line
+    ended construct.Accept o os next none opened line kind = by t.own.again refl
+      where
+        by : (x : Option Again) → t.own.again ≡ x → Kept (done (orders plan code table tasks barriers seen sound fits ways) plan (flat_controls plan code).barrier limits alternative (ends 0) n c)
+        by None e = accept_ended_good plan code table tasks barriers seen sound fits ways limits alternative n c t o os kind.0 next w is running none e opened kind.1 line
+        by (Some r) e = accept_again_good plan code table tasks barriers seen sound fits ways limits alternative n c t o os kind.0 next r w is running none e opened kind.1 line
 
     abbrev Innermost : List Opened → Type 0
     Innermost [] = ⊥
     Innermost (o ∷ os) = Unit {0}
 
-    pub ends_good : (loops : ℕ) → t.own.pending ≡ None → AskedBy (end_at code t.control.place).last (loops_of (end_at code t.control.place).exit) (ends loops) → ((o : Opened) (os : List Opened) → (out_of_loops t.own).opened ≡ o ∷ os → EndsTask t.own o.purpose) → Kept (done (orders plan code table tasks barriers seen sound fits ways) plan (flat_controls plan code).barrier limits alternative (ends loops) n c)
-    ends_good loops none asked its = by t.own.opened refl asked
+    pub ends_good : (loops : ℕ) → t.own.pending ≡ None → AskedBy (end_at code t.control.place).last (loops_of (end_at code t.control.place).exit) (ends loops) → Kept (done (orders plan code table tasks barriers seen sound fits ways) plan (flat_controls plan code).barrier limits alternative (ends loops) n c)
+    ends_good loops none asked = by t.own.opened refl asked
       where
         s : StandsAtStep code seen t.control.place (end_at code t.control.place) t.control.returns t.own.display t.own.opened
         s = at_step plan code seen n c t w.spots is running none w.framed
-
-        no_loop : (c' : Construct) (p : Purpose) (os : List Opened) → KindOf c' p os → is_loop p ≡ false
-        no_loop construct.Unit for_body os k = refl
-        no_loop construct.Unit for_block os k = refl
-        no_loop construct.Unit for_loop os k = absurd k
-        no_loop construct.Unit (for_procedure r) os k = refl
-        no_loop construct.Unit (for_operation m r) os k = refl
-        no_loop construct.Unit (for_entry m id served back) os k = refl
-        no_loop construct.Unit (for_accept id) os k = refl
-        no_loop construct.Block p os k = ap is_loop k
-        no_loop construct.Accept p os k = ap is_loop k.1
 
         block_kind : (o : Opened) (os : List Opened) → t.own.opened ≡ o ∷ os → (next : ℕ) × ((end_at code t.control.place).last ≡ Leaves loops next) → o.purpose ≡ for_block
         block_kind o os e a =
@@ -262,14 +254,14 @@ module _ (plan : Plan) (code : Flat) (table : List Counts) (tasks barriers seen 
             let kind : KindOf a.0 o.purpose os =
             end_kind t.control.place a.1.0 t.control.returns t.own.display o os (end_at code t.control.place) a.0 (subst (λ ps. StandsAtStep code seen t.control.place (end_at code t.control.place) t.control.returns t.own.display ps) e s) a.1.1.0 in
             subst (λ k. Kept (done (orders plan code table tasks barriers seen sound fits ways) plan (flat_controls plan code).barrier limits alternative (ends k) n c)) (sym a.1.1.1)
-            (ended a.0 o os a.1.0 none e a.1.1.0 kind (its o os (ap (λ (x : Own). x.opened) (no_loops t.own o os e (no_loop a.0 o.purpose os kind)) ∙ e)))
+            (ended a.0 o os a.1.0 none e a.1.1.0 kind)
         by (o ∷ os) e (inr a) =
             block_left_with plan code table tasks barriers seen sound fits ways limits alternative n c t o os loops a.0 w is running none e a.1
             (closable_of n c t.own o os own_is (ap (λ (x : Own). x.opened) (no_loops t.own o os e (ap is_loop (block_kind o os e a))) ∙ e) (inl (block_kind o os e a)) tells)
 
     -- An exception leaves it.
-    pub left_good : (p : Pending) → t.own.pending ≡ Some p → t.own.again ≡ None → ((o : Opened) (os : List Opened) → (out_of_loops t.own).opened ≡ o ∷ os → EndsTask t.own o.purpose) → Kept (done (orders plan code table tasks barriers seen sound fits ways) plan (flat_controls plan code).barrier limits alternative (is_left_by p) n c)
-    left_good p pending still its = by out.o.purpose refl (its out.o out.os out.opened)
+    pub left_good : (p : Pending) → t.own.pending ≡ Some p → t.own.again ≡ None → Kept (done (orders plan code table tasks barriers seen sound fits ways) plan (flat_controls plan code).barrier limits alternative (is_left_by p) n c)
+    left_good p pending still = by out.o.purpose refl
       where
         stands : StandsAt code.lines seen (Some p) t.control t.own.display t.own.opened
         stands =
@@ -297,20 +289,20 @@ module _ (plan : Plan) (code : Flat) (table : List Counts) (tasks barriers seen 
                 around None k = absurd k
                 around (Some o) k = (o.within, k)
 
-        by : (q : Purpose) → out.o.purpose ≡ q → EndsTask t.own q → Kept (done (orders plan code table tasks barriers seen sound fits ways) plan (flat_controls plan code).barrier limits alternative (is_left_by p) n c)
-        by for_body e h =
+        by : (q : Purpose) → out.o.purpose ≡ q → Kept (done (orders plan code table tasks barriers seen sound fits ways) plan (flat_controls plan code).barrier limits alternative (is_left_by p) n c)
+        by for_body e =
             let held = some_holds (found code.lines t.control.place) stands in
             let last : out.os ≡ [] = last_body code seen held.0 t.control.returns t.own.opened t.own out.o out.os held.1 refl out.opened e in
             body_left_by plan code table tasks barriers seen sound fits ways limits alternative n c t out.o p w is running (out.opened ∙ ap (λ ps. out.o ∷ ps) last) e
-        by for_block e h =
+        by for_block e =
             left_by_exception plan code table tasks barriers seen sound fits ways limits alternative n c t out.o out.os p w is running pending still out.opened (inl e)
             (closable_of n c t.own out.o out.os own_is out.opened (inl e) tells)
-        by for_loop e h = absurd (subst (λ x. LeadsTo code seen ((r : Pending) → StandsAt code.lines seen (Some r) (left_by code (end_at code t.control.place).out t.control) out.o.saved out.os) x (left_by code (end_at code t.control.place).out t.control) out.o.saved out.os) e out.leads)
-        by (for_procedure r) e h =
+        by for_loop e = absurd (subst (λ x. LeadsTo code seen ((r : Pending) → StandsAt code.lines seen (Some r) (left_by code (end_at code t.control.place).out t.control) out.o.saved out.os) x (left_by code (end_at code t.control.place).out t.control) out.o.saved out.os) e out.leads)
+        by (for_procedure r) e =
             left_by_exception plan code table tasks barriers seen sound fits ways limits alternative n c t out.o out.os p w is running pending still out.opened (inr (r, e))
             (closable_of n c t.own out.o out.os own_is out.opened (inr (r, e)) tells)
-        by (for_operation m r) e h =
+        by (for_operation m r) e =
             left_operation plan code table tasks barriers seen sound fits ways limits alternative n c t out.o out.os m r p w is running pending still unserving unmade out.opened e
-        by (for_entry m id served back) e h =
+        by (for_entry m id served back) e =
             left_entry plan code table tasks barriers seen sound fits ways limits alternative n c t out.o out.os m id served back p w is running pending unserving unmade out.opened e
-        by (for_accept id) e h = accept_left_good plan code table tasks barriers seen sound fits ways limits alternative n c t out.o out.os id p w is running pending out.opened e
+        by (for_accept id) e = accept_left_good plan code table tasks barriers seen sound fits ways limits alternative n c t out.o out.os id p w is running pending out.opened e

@@ -1,17 +1,15 @@
--- Code in memory has, by its form, the ways that its steps take.
-use Rattle.std.proofs.Common.{◌≡◌, ℕ, zero, suc, List, [], ◌∷◌, map, Some, refl, ap, subst, slice_get}
+-- Code whose steps end as those of code in memory do has, by its form, the ways that they take.
+use Rattle.std.proofs.Common.{◌≡◌, ℕ, zero, suc, List, [], ◌∷◌, drop, Option, None, Some, refl, ap, ◌∙◌, subst, slice_get}
 use Rattle.std.proofs.lemmas.Option.{same_Some}
 use Rattle.aud_code.specs.declared.line.Among.{Among}
 use Rattle.aud_code.specs.declared.line.Among.TheVariants as among
-use Rattle.aud_code.specs.declared.line.Code.{Code}
+use Rattle.aud_code.specs.declared.line.EndLine.{EndLine}
 use Rattle.aud_code.specs.declared.line.Ending.{Ending}
 use Rattle.aud_code.specs.declared.line.Ending.TheVariants.{Loop, Block}
 use Rattle.aud_code.specs.declared.line.Last.{Last}
 use Rattle.aud_code.specs.declared.line.Last.TheVariants.{Does, Concerns, Continues, Guards, Ends, Leaves}
-use Rattle.aud_code.specs.declared.line.Line.{Line}
-use Rattle.aud_code.specs.declared.line.Line.TheVariants as line
 use Rattle.aud_code.specs.Flat as flat
-use Rattle.aud_code.specs.View.{inside_of, beside, plain_among, plain_code, plain_end, plain_ending, plain_last, plain_line, ways_of}
+use Rattle.aud_code.specs.View.{beside, inside_of, plain_among, plain_ending, plain_found, plain_last, ways_of, EndsPlainly}
 use Rattle.aud_framed.specs.Stepping.{HasWays, LeadsWhere}
 
 does_lead : (e : Ending) (next : ℕ) → LeadsWhere (flat.Does (plain_ending e)) (next ∷ inside_of e)
@@ -31,18 +29,20 @@ leads (Guards gs) = refl
 leads (Ends c next) = tt
 leads (Leaves n to) = tt
 
-line_leads : (ls : List Line) (n : ℕ) (l : flat.EndLine) → slice_get (map plain_line ls) n ≡ Some (flat.end l) → LeadsWhere l.last l.ways
-line_leads [] n l e = absurd cc
-line_leads (line.Instruction i ∷ ls) zero l e = absurd cc
-line_leads (line.End x ∷ ls) zero l e = by (same_Some (flat.end (plain_end x)) (flat.end l) e)
+-- what ends the step at a place where an ending stands
+end_found : (ls : List flat.FlatLine) (n place : ℕ) (l : flat.EndLine) → slice_get ls n ≡ Some (flat.end l) → flat.end_from (drop n ls) place ≡ l
+end_found [] n place l e = absurd cc
+end_found (flat.instructs i ∷ ls) zero place l e = absurd cc
+end_found (flat.end x ∷ ls) zero place l e = ap ending (same_Some (flat.end x) (flat.end l) e)
   where
     ending : flat.FlatLine → flat.EndLine
-    ending (flat.instructs i) = plain_end x
+    ending (flat.instructs i) = x
     ending (flat.end y) = y
+end_found (x ∷ ls) (suc n) place l e = end_found ls n place l e
 
-    by : flat.end (plain_end x) ≡ flat.end l → LeadsWhere l.last l.ways
-    by q = subst (λ (y : flat.EndLine). LeadsWhere y.last y.ways) (ap ending q) (leads x.last)
-line_leads (x ∷ ls) (suc n) l e = line_leads ls n l e
-
-pub plain_ways : (code : Code) → HasWays (plain_code code)
-plain_ways code n l e = line_leads code.lines.items n l e
+pub plain_ways : (code : flat.Flat) → EndsPlainly code → HasWays code
+plain_ways code plainly n l e = by (plainly n).0 ((plainly n).1 ∙ end_found code.lines n n l e)
+  where
+    by : (x : Option EndLine) → plain_found n x ≡ l → LeadsWhere l.last l.ways
+    by None q = subst (λ (y : flat.EndLine). LeadsWhere y.last y.ways) q tt
+    by (Some x) q = subst (λ (y : flat.EndLine). LeadsWhere y.last y.ways) q (leads x.last)

@@ -18,7 +18,6 @@ use Rattle.aud_meaning.specs.Orders.{Orders, carried_out}
 use Rattle.aud_meaning.specs.Parts.{acting, unit_of}
 use Rattle.aud_meaning.specs.Run.{scene_of}
 use Rattle.aud_meaning.specs.Step as step
-use Rattle.aud_meaning.specs.Step.{done}
 use Rattle.aud_meaning.specs.Why.Alone.{IsAlone, acts}
 use Rattle.aud_meaning.proofs.Alone.{alone_law}
 use Rattle.aud_code.specs.Places.{Spot, loops_of}

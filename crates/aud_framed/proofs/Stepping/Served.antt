@@ -103,7 +103,7 @@ after_call id m n f d v g is = by (nat_eq m n) refl
       calls = refl;
     }
 
-lost_not : (s ill : Bool) → not s && ill ≡ false → ill ≡ true → s ≡ true
+pub lost_not : (s ill : Bool) → not s && ill ≡ false → ill ≡ true → s ≡ true
 lost_not true ill h k = refl
 lost_not false ill h k = absurd (true≢false (sym k ∙ h))
 
@@ -210,7 +210,7 @@ module _ (plan : Plan) (code : Flat) (table : List Counts) (tasks barriers seen 
           (sym (fused id (λ (a : Call). record a { state = Queued; arrival = c.shared.arrivals }) (λ (a : Call). effect.called_of (orders plan code table tasks barriers seen sound fits ways) plan (flat_controls plan code).barrier (owner.Object object) a) (changed id (λ (a : Call). effect.retargeted (orders plan code table tasks barriers seen sound fits ways) plan (flat_controls plan code).barrier r values a) c.shared.calls)
           ∙ fused id (λ (a : Call). record (effect.called_of (orders plan code table tasks barriers seen sound fits ways) plan (flat_controls plan code).barrier (owner.Object object) a) { state = Queued; arrival = c.shared.arrivals }) (λ (a : Call). effect.retargeted (orders plan code table tasks barriers seen sound fits ways) plan (flat_controls plan code).barrier r values a) c.shared.calls))
           (changed_serviced back_queued (suc c.shared.arrivals) o_at
-          (call_framed plan code seen id back_queued c free live (λ a. refl) (sym its) (λ q. (entry, object_there n object c.shared.objects holds.acts))
+          (call_framed plan code seen id back_queued c free live (λ a. refl) (λ o e. sym its ∙ e) (λ h. subst (λ q. Waits q (own_of (call_of id c).caller c)) its (w.framed.calls id live).1) (λ q. (entry, object_there n object c.shared.objects holds.acts))
           (λ q ill. lost_not (not r.with_abort) (own_of (call_of id c).caller c).abnormal (subst (λ (a : Call). not a.stays && (own_of a.caller c).abnormal ≡ false) is_there kept) ill) w.framed)
           (on_still back_queued (λ a. refl) (λ a e. refl)))
 

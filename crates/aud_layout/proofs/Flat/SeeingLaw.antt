@@ -53,7 +53,7 @@ offset_less (l ∷ ls) m zero h = absurd (omega (arith, h))
 offset_less (l ∷ ls) zero (suc n) h = omega arith
 offset_less (l ∷ ls) (suc m) (suc n) h = let later = offset_less ls m n (omega (arith, h)) in omega (arith, later)
 
-offset_most : (lines : List Line) (m n : ℕ) → m ≤ n → offset lines m ≤ offset lines n
+pub offset_most : (lines : List Line) (m n : ℕ) → m ≤ n → offset lines m ≤ offset lines n
 offset_most [] m n h = h
 offset_most (l ∷ ls) zero n h = omega arith
 offset_most (l ∷ ls) (suc m) zero h = absurd (omega (arith, h))
@@ -235,7 +235,7 @@ module _ (program : Program) (seen : List ℕ) where
   unit_begins : (b : Body) (at n : ℕ) → Stands program T seen n at (unit_code b at) → slice_get seen (G at) ≡ Some n
   unit_begins b at n s = body_begins program T seen n construct.Unit b at 0 (end_place b at 1) (in_call None (end_place b at 1)) n s (here_at at n)
 
-  starts_next : (bs : List Body) (at : ℕ) → next_start (map G (starts_from bs at)) (G (spare_from bs at)) ≡ G at
+  pub starts_next : (bs : List Body) (at : ℕ) → next_start (map G (starts_from bs at)) (G (spare_from bs at)) ≡ G at
   starts_next [] at = refl
   starts_next (b ∷ bs) at = refl
 
@@ -250,6 +250,15 @@ module _ (program : Program) (seen : List ℕ) where
   rest_at : (b : Body) (bs : List Body) (at : ℕ) → HasAt L at (units_code (b ∷ bs) at) → HasAt L (at + body_size b 1) (units_code bs (at + body_size b 1))
   rest_at b bs at h = has_back L at (body_size b 1) (unit_code b at) _ (length-unit b at) h
 
+  spare_stands : (at : ℕ) → HasAt L at (unit_code no_body at) → BodyCounts X seen 1 (G at) (length X) → Stands program T seen 1 at (unit_code no_body at)
+  spare_stands at h counts =
+      let long = length-unit no_body at in
+      let left = length-drop at L ∙ refl in
+      let there = ap length h.is ∙ length-append (unit_code no_body at) h.rest in
+      let most = offset_most L (at + body_size no_body 1) (length L) (omega (arith, long, left, there)) in
+      let all = length_assembled G L in
+      unit_stands no_body at 1 (length X) h counts (omega (arith, most, all))
+
   -- each body begins with its own frame and those that it sees
   begins_with : (entries all : List Entry) (us : List UnitPlan) (bs : List Body) (at : ℕ) → UnitsScoped program.plan all us bs entries → HasAt L at (units_code bs at) → BodiesAt (map level_of us) bs at → (u : ℕ) → u < length entries → slice_get seen (slice_index_or (map G (starts_from bs at)) u (G (spare_from bs at))) ≡ Some (suc (length (entry_of entries u).outer))
   begins_with [] all us bs at sc h counts u lt = absurd (omega (arith, lt))
@@ -259,6 +268,16 @@ module _ (program : Program) (seen : List ℕ) where
   begins_with (e ∷ es) all (x ∷ us) (b ∷ bs) at sc h counts zero lt =
       unit_begins b at (suc x.level) (first_stands x.level (map level_of us) b bs at h counts) ∙ ap (λ n. Some (suc n)) sc.0.0
   begins_with (e ∷ es) all (x ∷ us) (b ∷ bs) at sc h counts (suc u) lt = begins_with es all us bs (at + body_size b 1) sc.1 (rest_at b bs at h) counts.1 u (omega (arith, lt))
+
+  -- and those of its level, also that which is run for a number that no body has
+  pub begins_level : (all entries : List Entry) (us : List UnitPlan) (bs : List Body) (at : ℕ) → UnitsScoped program.plan all us bs entries → HasAt L at (units_code bs at) → BodiesAt (map level_of us) bs at → (u : ℕ) → slice_get seen (slice_index_or (map G (starts_from bs at)) u (G (spare_from bs at))) ≡ Some (suc (slice_index_or us u no_unit).level)
+  begins_level all entries [] [] at sc h counts zero = unit_begins no_body at 1 (spare_stands at h counts)
+  begins_level all entries [] [] at sc h counts (suc u) = unit_begins no_body at 1 (spare_stands at h counts)
+  begins_level all entries [] (b ∷ bs) at sc h counts u = absurd sc
+  begins_level all entries (x ∷ us) [] at sc h counts u = absurd sc
+  begins_level all [] (x ∷ us) (b ∷ bs) at sc h counts u = absurd sc
+  begins_level all (e ∷ es) (x ∷ us) (b ∷ bs) at sc h counts zero = unit_begins b at (suc x.level) (first_stands x.level (map level_of us) b bs at h counts)
+  begins_level all (e ∷ es) (x ∷ us) (b ∷ bs) at sc h counts (suc u) = begins_level all es us bs (at + body_size b 1) sc.1 (rest_at b bs at h) counts.1 u
 
   module _ (entries : List Entry) (calls : (u : ℕ) → u < length entries → slice_get seen (start_at (flat_program program) u) ≡ Some (suc (length (entry_of entries u).outer))) (levels : (u : ℕ) → (unit_of program.plan u).level ≡ length (entry_of entries u).outer) where
     unit_seen : (b : Body) (at n : ℕ) (first : Elaborated) (scope : Scope) (names : List tree.Named) → length scope ≡ n → BodyScoped program.plan entries b first names scope → BodyDeclares b → Stands program T seen (suc n) at (unit_code b at) → EachSeen program seen at (unit_code b at)
@@ -270,13 +289,7 @@ module _ (program : Program) (seen : List ℕ) where
 
     -- what is run for a number that no body has
     spare_seen : (at : ℕ) → HasAt L at (unit_code no_body at) → BodyCounts X seen 1 (G at) (length X) → EachSeen program seen at (unit_code no_body at)
-    spare_seen at h counts =
-        let long = length-unit no_body at in
-        let left = length-drop at L ∙ refl in
-        let there = ap length h.is ∙ length-append (unit_code no_body at) h.rest in
-        let most = offset_most L (at + body_size no_body 1) (length L) (omega (arith, long, left, there)) in
-        let all = length_assembled G L in
-        unit_seen no_body at 0 none_yet [] [] refl (tt, refl, tt, tt, tt) (tt, (tt, tt)) (unit_stands no_body at 1 (length X) h counts (omega (arith, most, all)))
+    spare_seen at h counts = unit_seen no_body at 0 none_yet [] [] refl (tt, refl, tt, tt, tt) (tt, (tt, tt)) (spare_stands at h counts)
 
     units_seen : (us : List UnitPlan) (bs : List Body) (es : List Entry) (at : ℕ) → UnitsScoped program.plan entries us bs es → BodiesDeclare bs → HasAt L at (units_code bs at) → BodiesAt (map level_of us) bs at → EachSeen program seen at (units_code bs at)
     units_seen [] [] [] at sc dc h counts = spare_seen at h counts

@@ -27,7 +27,7 @@ use Rattle.aud_layout.proofs.Flat.Numbers.{is_written, same_there, one_out, afte
 use Rattle.aud_layout.proofs.Flat.Opening.{NoAccepts, call_has_none, requeue_has_none, each_any, select_opened}
 use Rattle.aud_layout.proofs.Flat.Seeing.{lines, Stands, front, back, tail, stands_moved, Here, here_on, here_inside, all_written, first_written, statement_begins, part_begins, guards_see, body_stands, body_begins, body_ends, doing_begins, offer_stands, offers_begin, WaysOut, AroundSees, InsideSees, within_inside, exit_sees, loop_sees, for_sees, stubs_see}
 
-unit_of : (ts : List TaskPlan) (n : ℕ) → slice_index_or (map body_of ts) n 0 ≡ (slice_index_or ts n no_task).unit
+pub unit_of : (ts : List TaskPlan) (n : ℕ) → slice_index_or (map body_of ts) n 0 ≡ (slice_index_or ts n no_task).unit
 unit_of [] zero = refl
 unit_of [] (suc n) = refl
 unit_of (t ∷ ts) zero = refl

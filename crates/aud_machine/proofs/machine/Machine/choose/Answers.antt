@@ -4,6 +4,7 @@ use Rattle.aud_meaning.specs.Configuration.{All}
 use Rattle.aud_code.specs.Places.{Spot}
 use Rattle.aud_code.specs.Starts.{AreSpots}
 use Rattle.aud_machine.proofs.Bridges.{supplied_shown, within_supplied}
+use Rattle.aud_machine.proofs.Framed.{supplied_comes}
 use Rattle.aud_machine.proofs.Missed.{supplied_misses}
 use Rattle.aud_machine.proofs.machine.Machine.choose.Goals as goal
 
@@ -19,4 +20,4 @@ invariant_of-self-2 c =
     let choices = c.args.choices.now in
     let new = c.choose.new.self in
     let told = c.in_ok-choose.ensures in
-    (c.self.invariant.0, c.self.invariant.1, λ alive. subst (λ (a : All Spot). AreSpots inside.code.lines a.tasks) (sym told) (c.self.invariant.2 c.if-self.false), λ alive one. within_supplied (plain_program inside.program).plan inside.code inside.limits choices inside.state new told (c.self.invariant.3 c.if-self.false one), λ alive. supplied_misses inside.program inside.code c.self.invariant.0 inside.limits inside.spent inside.state (c.self.invariant.4 c.if-self.false) choices new told)
+    (c.self.invariant.0, c.self.invariant.1, λ alive. subst (λ (a : All Spot). AreSpots inside.code.lines a.tasks) (sym told) (c.self.invariant.2 c.if-self.false), λ alive one. within_supplied (plain_program inside.program).plan inside.code inside.limits choices inside.state new told (c.self.invariant.3 c.if-self.false one), λ alive. supplied_misses inside.program inside.code c.self.invariant.0 inside.limits inside.spent inside.state (c.self.invariant.4 c.if-self.false) choices new told, c.self.invariant.5, λ alive. supplied_comes inside.program inside.code inside.limits choices inside.state new told (c.self.invariant.6 c.if-self.false))
