@@ -10,3 +10,4 @@ pub mod Enabled
 pub mod Turns
 pub mod Runs
 pub mod Fitting
+pub mod OfTasks

@@ -1,9 +1,10 @@
 -- The configurations that a program comes to, and what holds of each of them.
-use Rattle.std.specs.Prelude.{◌≡◌, ℕ, List, Some, slice_get}
+use Rattle.std.specs.Prelude.{◌≡◌, ℕ, List, Option, Some, None, slice_get}
 use Rattle.aud_text.specs.declared.limits.Limits.{Limits}
 use Rattle.aud_typed.specs.Tree.{Plan}
 use Rattle.aud_meaning.specs.declared.state.Move.{Move}
-use Rattle.aud_meaning.specs.Configuration.{All}
+use Rattle.aud_meaning.specs.declared.state.Status.TheVariants.{Running}
+use Rattle.aud_meaning.specs.Configuration.{TaskAt, All}
 use Rattle.aud_meaning.specs.Run.{advanced, moves_at, opening_with, run_with, step_with, supplied}
 use Rattle.aud_code.specs.Places.{Spot}
 use Rattle.aud_code.specs.Flat.{Flat, flat_controls}
@@ -18,12 +19,19 @@ pub data Reached (plan : Plan) (code : Flat) (name : List ℕ) (limits : Limits)
   begins : Reached plan code name limits (opening_with plan name ((flat_controls plan code).begins 0))
   chooses : (choices : List ℕ) (c : All Spot) → Reached plan code name limits c → Reached plan code name limits (record c { choices = choices })
   waits : (milliseconds : ℕ) (c : All Spot) → Reached plan code name limits c → Reached plan code name limits (advanced milliseconds c)
-  steps : (number : ℕ) (m : Move) (c : All Spot) → slice_get (moves_at plan (flat_controls plan code) c) number ≡ Some m → Reached plan code name limits c → Reached plan code name limits (step_with plan (flat_controls plan code) limits c m)
+  steps : (number : ℕ) (m : Move) (c : All Spot) →
+      slice_get (moves_at plan (flat_controls plan code) c) number ≡ Some m → Reached plan code name limits c →
+      Reached plan code name limits (step_with plan (flat_controls plan code) limits c m)
 
--- each enabled move meets what code alone doesn't say
+-- each enabled move of a task that runs meets what code alone doesn't say
+abbrev pub MeetsIf : Plan → Flat → Option (TaskAt Spot) → ℕ → All Spot → Type 0
+MeetsIf plan code None n c = Unit {0}
+MeetsIf plan code (Some t) n c = t.own.status ≡ Running → MeetsBy plan code (Some t) n c
+
 abbrev pub AllMeet : Plan → Flat → List ℕ → Limits → Type 0
 AllMeet plan code name limits =
-    (c : All Spot) (number : ℕ) (m : Move) → Reached plan code name limits c → slice_get (moves_at plan (flat_controls plan code) c) number ≡ Some m → MeetsBy plan code (slice_get c.tasks m.task) m.task c
+    (c : All Spot) (number : ℕ) (m : Move) → Reached plan code name limits c →
+    slice_get (moves_at plan (flat_controls plan code) c) number ≡ Some m → MeetsIf plan code (slice_get c.tasks m.task) m.task c
 
 -- Then tasks hold their frames in each of them.
 abbrev pub RunFramedLaw : Type 0
@@ -42,7 +50,9 @@ pub record GoesOn (plan : Plan) (code : Flat) (name : List ℕ) (limits : Limits
   pub kept : (c d : All Spot) → forgotten d ≡ forgotten c → Comes plan code name limits c → Comes plan code name limits d
   pub supplies : (choices : List ℕ) (c : All Spot) → Comes plan code name limits c → Comes plan code name limits (supplied choices c)
   pub waits : (milliseconds : ℕ) (c : All Spot) → Comes plan code name limits c → Comes plan code name limits (advanced milliseconds c)
-  pub steps : (number : ℕ) (m : Move) (c : All Spot) → slice_get (moves_at plan (flat_controls plan code) c) number ≡ Some m → Comes plan code name limits c → Comes plan code name limits (step_with plan (flat_controls plan code) limits c m)
+  pub steps : (number : ℕ) (m : Move) (c : All Spot) →
+      slice_get (moves_at plan (flat_controls plan code) c) number ≡ Some m → Comes plan code name limits c →
+      Comes plan code name limits (step_with plan (flat_controls plan code) limits c m)
   pub runs : (n : ℕ) (c : All Spot) → Comes plan code name limits c → Comes plan code name limits (run_with plan (flat_controls plan code) limits n c)
 
 abbrev pub ComesLaw : Type 0

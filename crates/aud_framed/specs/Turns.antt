@@ -37,10 +37,10 @@ ActsKeptLaw =
     (in_action n c ≡ false → is_leave (coming_at code plan t.own.pending (sight_of n c) t.control) t.own ≡ false → t.own.abnormal ≡ false) →
     IsFramed plan code seen (done (carried_out (flat_controls plan code)) plan (flat_controls plan code).barrier limits alternative (asked_at code t.own.pending (scene_of plan (flat_controls plan code) n c) t.control) n c)
 
--- An enabled step that meets what code alone doesn't say keeps the frames that tasks hold.
+-- An enabled step keeps the frames that tasks hold, if a task that runs meets what code alone doesn't say.
 abbrev pub FramedLaw : Type 0
 FramedLaw =
     (plan : Plan) (code : Flat) (table : List Counts) (tasks barriers seen : List ℕ) (limits : Limits) (c : All Spot) (number : ℕ) (m : Move) (t : TaskAt Spot) →
     IsSound code → IsSeen code table tasks barriers seen → HasLevels plan code tasks seen → HasWays code → IsKept plan code seen c →
-    slice_get (moves_at plan (flat_controls plan code) c) number ≡ Some m → slice_get c.tasks m.task ≡ Some t → MeetsBy plan code (Some t) m.task c →
+    slice_get (moves_at plan (flat_controls plan code) c) number ≡ Some m → slice_get c.tasks m.task ≡ Some t → (t.own.status ≡ Running → MeetsBy plan code (Some t) m.task c) →
     IsKept plan code seen (step_with plan (flat_controls plan code) limits c m)

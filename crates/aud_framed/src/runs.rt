@@ -1,6 +1,7 @@
 // The laws of the configurations that programs come to. Each function does nothing: its contract is the law.
 
 ghost use Rattle.aud_framed.specs.Fitting.{BodiesKeptLaw, ComesOpenLaw, FitsFramedLaw, RunOpenLaw};
+ghost use Rattle.aud_framed.specs.OfTasks.{OfTasksLaw, TasksMeetLaw};
 ghost use Rattle.aud_framed.specs.Runs.{RunFramedLaw, ComesLaw, ComesFramedLaw};
 
 /// Tasks hold their frames in each configuration that a program comes to, and in each of which the same is left.
@@ -28,4 +29,14 @@ pub fn fits_framed_law()
 pub fn run_open_law()
     ensures open { RunOpenLaw }
     ensures left { ComesOpenLaw }
+{}
+
+/// A program without protected objects meets what code alone doesn't say, in each configuration that it comes to.
+pub fn tasks_meet_law()
+    ensures meet { TasksMeetLaw }
+{}
+
+/// So tasks hold their frames in each, and those frames are open that are seen.
+pub fn of_tasks_law()
+    ensures holds { OfTasksLaw }
 {}

@@ -18,9 +18,9 @@ use Rattle.aud_over.specs.Over.{forgotten}
 use Rattle.aud_over.proofs.Coding.{code_looks}
 use Rattle.aud_over.proofs.Left.{moves_left, step_left}
 use Rattle.aud_over.proofs.Like.{supplied_left}
-use Rattle.aud_framed.specs.Framed.{HasLevels, MeetsBy}
+use Rattle.aud_framed.specs.Framed.{HasLevels}
 use Rattle.aud_framed.specs.Stepping.{HasWays, IsKept}
-use Rattle.aud_framed.specs.Runs.{AllMeet, Comes, GoesOn, Reached, begins, chooses, steps, waits}
+use Rattle.aud_framed.specs.Runs.{AllMeet, Comes, GoesOn, MeetsIf, Reached, begins, chooses, steps, waits}
 use Rattle.aud_framed.proofs.Kept.{framed_kept}
 use Rattle.aud_framed.proofs.Opening.{opening_framed}
 use Rattle.aud_framed.proofs.Running.Unchosen.{unchosen}
@@ -41,39 +41,40 @@ number_of m (x ∷ xs) (inr h) = let r = number_of m xs h in (suc r.0, r.1)
 
 -- Configurations that a program comes to.
 
-module _ (plan : Plan) (code : Flat) (table : List Counts) (tasks barriers seen : List ℕ) (name : List ℕ) (limits : Limits) (sound : IsSound code) (fits : IsSeen code table tasks barriers seen) (levels : HasLevels plan code tasks seen) (ways : HasWays code) (meet : AllMeet plan code name limits) where
-  opens : IsKept plan code seen (opening_with plan name ((flat_controls plan code).begins 0))
+module _ (plan : Plan) (code : Flat) (table : List Counts) (tasks barriers seen : List ℕ) (name : List ℕ) (limits : Limits) (sound : IsSound code) (fits : IsSeen code table tasks barriers seen) (levels : HasLevels plan code tasks seen) (ways : HasWays code) where
+  pub opens : IsKept plan code seen (opening_with plan name ((flat_controls plan code).begins 0))
   opens = record {
     framed = opening_framed plan code table tasks barriers seen name sound fits;
     spots = (moved_kept code sound plan (begins_body 0) (record { place = 0; returns = [] }) (record { place = inl tt; returns = tt }), tt);
   }
 
   -- a step of a task that is not there does nothing
-  stepped : (number : ℕ) (m : Move) (c : All Spot) → slice_get (moves_at plan (flat_controls plan code) c) number ≡ Some m → MeetsBy plan code (slice_get c.tasks m.task) m.task c → IsKept plan code seen c → IsKept plan code seen (step_with plan (flat_controls plan code) limits c m)
+  pub stepped : (number : ℕ) (m : Move) (c : All Spot) → slice_get (moves_at plan (flat_controls plan code) c) number ≡ Some m → MeetsIf plan code (slice_get c.tasks m.task) m.task c → IsKept plan code seen c → IsKept plan code seen (step_with plan (flat_controls plan code) limits c m)
   stepped number m c enabled meets w = by (slice_get c.tasks m.task) refl meets
     where
-      by : (o : Option (TaskAt Spot)) → slice_get c.tasks m.task ≡ o → MeetsBy plan code o m.task c → IsKept plan code seen (step_with plan (flat_controls plan code) limits c m)
+      by : (o : Option (TaskAt Spot)) → slice_get c.tasks m.task ≡ o → MeetsIf plan code o m.task c → IsKept plan code seen (step_with plan (flat_controls plan code) limits c m)
       by None e h = subst (λ o. IsKept plan code seen (step_of plan (flat_controls plan code) limits o m c)) (sym e) w
       by (Some t) e h = framed_step plan code table tasks barriers seen limits c number m t sound fits levels ways w enabled e h
 
   -- neither choices nor the clock count
-  other : (c d : All Spot) → c.tasks ≡ d.tasks → c.shared ≡ d.shared → IsKept plan code seen c → IsKept plan code seen d
+  pub other : (c d : All Spot) → c.tasks ≡ d.tasks → c.shared ≡ d.shared → IsKept plan code seen c → IsKept plan code seen d
   other c d a b w = record {
     framed = like_framed plan code seen c d a (ap (λ s. s.calls) b) (ap (λ s. s.objects) b) w.framed;
     spots = subst (AreSpots code.lines) a w.spots;
   }
 
-  pub reached_kept : (c : All Spot) → Reached plan code name limits c → IsKept plan code seen c
-  reached_kept c begins = opens
-  reached_kept c (chooses choices d r) = other d (record d { choices = choices }) refl refl (reached_kept d r)
-  reached_kept c (waits milliseconds d r) = other d (advanced milliseconds d) refl refl (reached_kept d r)
-  reached_kept c (steps number m d enabled r) = stepped number m d enabled (meet d number m r enabled) (reached_kept d r)
+  module _ (meet : AllMeet plan code name limits) where
+    pub reached_kept : (c : All Spot) → Reached plan code name limits c → IsKept plan code seen c
+    reached_kept c begins = opens
+    reached_kept c (chooses choices d r) = other d (record d { choices = choices }) refl refl (reached_kept d r)
+    reached_kept c (waits milliseconds d r) = other d (advanced milliseconds d) refl refl (reached_kept d r)
+    reached_kept c (steps number m d enabled r) = stepped number m d enabled (meet d number m r enabled) (reached_kept d r)
 
-  pub comes_kept : (d : All Spot) → Comes plan code name limits d → IsKept plan code seen d
-  comes_kept d h = record {
-    framed = framed_kept plan code seen h.0 d h.2 (reached_kept h.0 h.1).framed;
-    spots = subst (AreSpots code.lines) (ap (λ (x : All Spot). x.tasks) h.2) (reached_kept h.0 h.1).spots;
-  }
+    pub comes_kept : (d : All Spot) → Comes plan code name limits d → IsKept plan code seen d
+    comes_kept d h = record {
+      framed = framed_kept plan code seen h.0 d h.2 (reached_kept h.0 h.1).framed;
+      spots = subst (AreSpots code.lines) (ap (λ (x : All Spot). x.tasks) h.2) (reached_kept h.0 h.1).spots;
+    }
 
 -- The same is left of them.
 

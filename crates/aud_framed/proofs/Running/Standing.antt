@@ -18,7 +18,7 @@ use Rattle.aud_framed.specs.Framed.{HasLevels}
 use Rattle.aud_framed.specs.Runs.{AllMeet, Comes, Reached, begins, chooses, steps, waits}
 use Rattle.aud_framed.specs.Stepping.{HasWays, IsKept}
 use Rattle.aud_framed.proofs.Running.Bodies.{step_bodies}
-use Rattle.aud_framed.proofs.Running.Completed.{not_running, not_terminated}
+use Rattle.aud_framed.proofs.Running.Closed.{not_running, not_terminated}
 use Rattle.aud_framed.proofs.Running.Fitting.{framed_fits}
 use Rattle.aud_framed.proofs.Running.Reaching.{comes_kept, reached_kept}
 
@@ -68,7 +68,7 @@ module _ (plan : Plan) (code : Flat) (table : List Counts) (tasks barriers seen 
       let h = reached_holds d r in
       record {
         kept = reached_kept plan code table tasks barriers seen name limits sound fits levels ways meet c (steps number m d enabled r);
-        bodies = step_bodies plan code table tasks barriers seen sound fits ways limits m d h.kept h.bodies;
+        bodies = step_bodies plan code table tasks barriers seen limits d m sound fits ways h.kept h.bodies;
         stands = step_stands [] plan (flat_controls plan code) limits d m (framed_fits plan code table tasks barriers seen [] m.task d sound fits ways direct h.kept h.bodies) h.stands;
       }
 

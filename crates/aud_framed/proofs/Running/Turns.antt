@@ -1,5 +1,5 @@
 -- What a task's next turn tells of its status.
-use Rattle.std.proofs.Common.{◌≡◌, ℕ, zero, suc, List, [], ◌∷◌, Option, Some, None, Bool, true, false, Result, refl, sym, ap, ◌∙◌, subst, slice_get}
+use Rattle.std.proofs.Common.{◌≡◌, ◌⊎◌, ℕ, zero, suc, List, [], ◌∷◌, Option, Some, None, Bool, true, false, Result, refl, sym, ap, ◌∙◌, subst, inl, inr, slice_get}
 use Rattle.std.proofs.lemmas.Option.{same_Some}
 use Rattle.aud_text.specs.declared.raise.Raise.{Raise}
 use Rattle.aud_typed.specs.Tree.{Plan}
@@ -29,26 +29,26 @@ module _ (plan : Plan) (barrier : ℕ → Sight → Result Bool Raise) (n : ℕ)
   Tells closing = x.own.status ≡ Completed
   Tells completing = IsUnderWay x.own.status
   Tells (withdrawing object) = Unit {0}
-  Tells (serving v) = Unit {0}
-  Tells (restarting r) = Unit {0}
-  Tells (expiring ds) = Unit {0}
-  Tells (cancelling id) = Unit {0}
+  Tells (serving v) = (x.own.serving ≡ Some v) × IsUnderWay x.own.status
+  Tells (restarting r) = (x.own.restart ≡ Some r) × (x.own.status ≡ Running)
+  Tells (expiring ds) = (x.own.status ≡ Accepting) ⊎ (x.own.status ≡ Delaying)
+  Tells (cancelling id) = x.own.status ≡ Calling
   Tells (acting y) = x.own.status ≡ Running
 
-  running_tells : (r : Option Restart) → x.own.status ≡ Running → Tells (running plan barrier r x.control.coming)
-  running_tells None h = h
-  running_tells (Some r) h = tt
+  running_tells : (r : Option Restart) → x.own.restart ≡ r → x.own.status ≡ Running → Tells (running plan barrier r x.control.coming)
+  running_tells None e h = h
+  running_tells (Some r) e h = (e, h)
 
-  usual_tells : (v : Option Serving) (status : Status) → x.own.status ≡ status → Tells (usual plan barrier v status n x s)
-  usual_tells (Some v) status h = tt
-  usual_tells None Created h = tt
-  usual_tells None Running h = running_tells x.own.restart h
-  usual_tells None Activating h = tt
-  usual_tells None Accepting h = tt
-  usual_tells None Delaying h = tt
-  usual_tells None Calling h = tt
-  usual_tells None Completed h = tt
-  usual_tells None Terminated h = tt
+  usual_tells : (v : Option Serving) (status : Status) → x.own.serving ≡ v → IsUnderWay x.own.status → x.own.status ≡ status → Tells (usual plan barrier v status n x s)
+  usual_tells (Some v) status e u h = (e, u)
+  usual_tells None Created e u h = tt
+  usual_tells None Running e u h = running_tells x.own.restart refl h
+  usual_tells None Activating e u h = tt
+  usual_tells None Accepting e u h = inl h
+  usual_tells None Delaying e u h = inr h
+  usual_tells None Calling e u h = h
+  usual_tells None Completed e u h = tt
+  usual_tells None Terminated e u h = tt
 
   once_tells : (object : Option ℕ) → IsUnderWay x.own.status → Tells (at_once plan barrier object)
   once_tells None h = h
@@ -59,11 +59,11 @@ module _ (plan : Plan) (barrier : ℕ → Sight → Result Bool Raise) (n : ℕ)
   way false = at_once plan barrier x.own.withdraw
 
   way_tells : (b : Bool) → IsUnderWay x.own.status → Tells (way b)
-  way_tells true h = usual_tells x.own.serving x.own.status refl
+  way_tells true h = usual_tells x.own.serving x.own.status refl h refl
   way_tells false h = once_tells x.own.withdraw h
 
   under_way_tells : (b : Bool) → IsUnderWay x.own.status → Tells (under_way plan barrier b n x s)
-  under_way_tells false h = usual_tells x.own.serving x.own.status refl
+  under_way_tells false h = usual_tells x.own.serving x.own.status refl h refl
   under_way_tells true h = way_tells (Deferred plan barrier n x s) h
 
   is_under_way : (status : Status) → x.own.status ≡ status → IsUnderWay status → IsUnderWay x.own.status

@@ -140,7 +140,7 @@ module _ (plan : Plan) (code : Flat) where
 
 -- The step.
 
-module _ (plan : Plan) (code : Flat) (table : List Counts) (tasks barriers seen_many : List ℕ) (sound : IsSound code) (fits : IsSeen code table tasks barriers seen_many) (levels : HasLevels plan code tasks seen_many) (ways : HasWays code) (limits : Limits) (m : Move) (c : All Spot) (t : TaskAt Spot) (w : Good plan code table tasks barriers seen_many sound fits ways c) (is : slice_get c.tasks m.task ≡ Some t) (meets : MeetsBy plan code (Some t) m.task c) where
+module _ (plan : Plan) (code : Flat) (table : List Counts) (tasks barriers seen_many : List ℕ) (sound : IsSound code) (fits : IsSeen code table tasks barriers seen_many) (levels : HasLevels plan code tasks seen_many) (ways : HasWays code) (limits : Limits) (m : Move) (c : All Spot) (t : TaskAt Spot) (w : Good plan code table tasks barriers seen_many sound fits ways c) (is : slice_get c.tasks m.task ≡ Some t) (meets : t.own.status ≡ Running → MeetsBy plan code (Some t) m.task c) where
   abbrev n : ℕ
   n = m.task
 
@@ -177,7 +177,7 @@ module _ (plan : Plan) (code : Flat) (table : List Counts) (tasks barriers seen_
       (λ object e. subst (λ o. IsIdleOwner m.task c o ≡ true) e both.1)).framed
   taken (acting y) x own coming told tells =
       acts_good plan code table tasks barriers seen_many sound fits levels ways limits m.alternative m.task next t next_good is (ap (λ (o : Own). o.status) (sym own) ∙ told.0) (ap (λ (o : Own). o.serving) (sym own) ∙ told.1.0)
-      (ap (λ (o : Own). o.restart) (sym own) ∙ told.1.1.0) meets (subst (λ z. ComingTells m.task next z) (told.1.1.1.0 ∙ coming) tells)
+      (ap (λ (o : Own). o.restart) (sym own) ∙ told.1.1.0) (meets (ap (λ (o : Own). o.status) (sym own) ∙ told.0)) (subst (λ z. ComingTells m.task next z) (told.1.1.1.0 ∙ coming) tells)
       (λ i l. ap (λ (o : Own). o.abnormal) (sym own) ∙ told.1.1.1.1 i (ap (λ (o : Own). is_leave x.control.coming o) own ∙ (ap (λ z. is_leave z t.own) coming ∙ l)))
 
 pub framed_step : FramedLaw
