@@ -4,7 +4,7 @@
 # them there, one after the other and a QUIT, as `stdin`, and what is answered as `stdout`.
 set -eu
 cd "$(dirname "$0")/../examples"
-sessions="first cell loop array recursion tasks steps rendezvous select buffer barrier resource abort evens watch"
+sessions="first cell loop array recursion tasks steps rendezvous select buffer barrier resource deadlock abort evens watch"
 answers() { for name in $sessions; do cat "$name.stdout"; done; }
 if [ $# = 1 ]; then
     { cat $sessions && echo QUIT; } > "$1/stdin"

@@ -606,7 +606,7 @@ def waits(by):
 def look(by):
     if by.random() < 0.5:
         return f"VARS {by.choice([0, 1, 1, 1, 1, 2, 2, 3, by.randrange(1, 9), 65, 9_999])}"
-    return by.choice(["MOVES", "MOVES", "TASKS", "TASKS", "QUEUES", "CLOCK"])
+    return by.choice(["MOVES", "MOVES", "TASKS", "TASKS", "QUEUES", "CLOCK", "OBJECTS", "OBJECTS", "WAITS", "WAITS"])
 
 
 def interleaved(by):
@@ -614,7 +614,7 @@ def interleaved(by):
     lines = ["CHOOSE " + " ".join(str(by.randrange(12)) for _ in range(400)), f"RUN {by.randrange(1, 100)}"]
     for _ in range(by.choice([20, 40, 80])):
         lines += [f"ADVANCE {by.choice([1, 250, 1_000])}"] * (by.random() < 0.2)
-        lines += [f"RUN {by.choice([1, 1, 2, 3, 5])}", by.choice(["TASKS", "TASKS", "TASKS", "MOVES", "MOVES", "QUEUES"])]
+        lines += [f"RUN {by.choice([1, 1, 2, 3, 5])}", by.choice(["TASKS", "TASKS", "TASKS", "MOVES", "MOVES", "QUEUES", "OBJECTS", "OBJECTS", "WAITS", "WAITS"])]
     return lines
 
 
@@ -625,8 +625,8 @@ def requests(by, with_tasks, with_aborts):
         lines += waits(by) if with_tasks and by.random() < 0.15 else [deed(by, with_tasks)]
         lines += [look(by) for _ in range(by.randrange(4))]
     if with_tasks:
-        lines += ["RUN 5000", *waits(by), "QUEUES", *waits(by), "QUEUES", "ADVANCE 1000000000"]
-    return lines + ["RUN 20000", "MOVES", "TASKS", "VARS 1", "VARS 2", "OUTPUT", "CLOCK"] + (["CHOOSE 0"] if with_tasks else [])
+        lines += ["RUN 5000", "OBJECTS", "WAITS", *waits(by), "QUEUES", *waits(by), "QUEUES", "ADVANCE 1000000000"]
+    return lines + ["RUN 20000", "MOVES", "TASKS", "OBJECTS", "WAITS", "VARS 1", "VARS 2", "OUTPUT", "CLOCK"] + (["CHOOSE 0"] if with_tasks else [])
 
 
 def misplaced(program, by):

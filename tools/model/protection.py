@@ -1,8 +1,9 @@
 """Protected objects: their declarations, protected actions, calls, barriers and servicing."""
 from state import (
-    AdaException, Callee, EntryCall, Frame, Inside, OBJECTS, Own, ProtectedObject, Scope, Step, Waits, program_error, storage_error,
+    AdaException, Ahead, Array, Callee, EntryCall, Frame, Inside, OBJECTS, Own, ProtectedObject, Scope, Step, TaskType, Variable, Waits,
+    program_error, storage_error,
 )
-from trees import Objects, Offer
+from trees import Arrays, Objects, Offer, ProtectedBody, Task
 
 
 class Protection:
@@ -10,16 +11,36 @@ class Protection:
 
     def protected(self, task, declaration, scope):
         """With its components, each of which sees those before it."""
-        inner = Scope(scope)
+        inner, components = Scope(scope), {}
         for objects in declaration.items:
             if isinstance(objects, Objects):
                 for name in objects.names:
-                    inner.names[name] = self.object(task, name, objects, inner)
+                    inner.names[name] = components[name] = self.object(task, name, objects, inner)
         if len(self.objects) == OBJECTS:
             raise storage_error()
         operations = {operation.name: operation for operation in declaration.operations()}
-        self.objects.append(ProtectedObject(declaration.name, operations, inner))
+        self.objects.append(ProtectedObject(declaration.name, operations, inner, components, task.frames[-1]))
         return self.objects[-1]
+
+    def look_ahead(self, protected, scope, behind):
+        """Gives it its bodies before these are declared, so that its barriers can be shown."""
+        number = next(at for at, it in enumerate(behind) if isinstance(it, ProtectedBody) and it.name == protected.name)
+        before, zeros = behind[:number], {}
+        types = [it.name for it in before if isinstance(it, Task) and it.is_type]
+        for declaration in before:
+            if isinstance(declaration, Task) and not declaration.is_type:
+                zeros[declaration.name] = self.tasks[0]
+            elif isinstance(declaration, (Arrays, Objects)):
+                is_task = declaration.subtype in types or isinstance(scope.find(declaration.subtype), TaskType)
+                zeros |= {name: self.zero(declaration, is_task) for name in declaration.names}
+        self.protected_body(protected, behind[number], Ahead(scope, zeros))
+
+    def zero(self, declaration, is_task):
+        """A task's number is that of the main procedure then."""
+        zero = self.tasks[0] if is_task else False if declaration.subtype == "BOOLEAN" else 0
+        if isinstance(declaration, Arrays):
+            return Array(declaration.low, declaration.high, [zero] * max(0, declaration.high - declaration.low + 1), declaration.subtype)
+        return zero if is_task else Variable(zero, declaration.subtype)
 
     def protected_body(self, protected, declaration, scope):
         inner = protected.scope
@@ -57,7 +78,8 @@ class Protection:
         if is_entry and self.is_acting(task) or not is_inside and task in protected.actions:
             raise program_error()
         self.may_enter(task)
-        call = EntryCall(task, formals, copies, protected.queues.get(operation.name), target, protected, statement.line, time)
+        queue = protected.queues.get(operation.name)
+        call = EntryCall(task, formals, copies, queue, target, protected, statement.line, time, protected, operation.name)
         if is_inside:
             yield from self.run_body(task, Frame("procedure"), protected.bodies[operation.name], call, statement.line)
         elif is_entry:
@@ -65,7 +87,7 @@ class Protection:
         else:
             protected.actions[task] = is_function
             yield from self.run_body(task, Frame("operation"), protected.bodies[operation.name], call, statement.line)
-            yield from self.end_action(task, protected, statement.line, is_function)
+            yield from self.end_action(task, protected, statement.line, is_function, call)
         if call.exception:
             call.exception.line = statement.line
             raise call.exception
@@ -88,7 +110,7 @@ class Protection:
             return
         else:
             call.queue.append(call)
-        yield from self.end_action(task, protected, statement.line)
+        yield from self.end_action(task, protected, statement.line, call=call)
         if not call.is_over:
             task.call = call
             yield from self.wait(task, "queued", statement.line, call.waits())
@@ -103,6 +125,7 @@ class Protection:
     def start_again(self, task, call, again):
         """A call that an accept makes again on an object."""
         protected, entry, task.is_restarting = again.unit, again.entry.name, True
+        call.unit = protected
         yield Step("start", again.line, None, None, protected)
         task.is_restarting = False
         if call.is_lost():
@@ -127,10 +150,12 @@ class Protection:
         yield from self.run_body(task, Frame("entry"), protected.bodies[entry], call, line)
         task.serving -= 1
 
-    def end_action(self, task, protected, line, is_function=False):
-        """After it has served the entries that are eligible, if it is no function's."""
+    def end_action(self, task, protected, line, is_function=False, call=None):
+        """After it has served the entries that are eligible, if it is no function's; of the task's own call, if any, an exception is
+        pending meanwhile."""
         while not is_function and self.is_serviced(protected):
-            alternative = yield Step("serve", line, None, lambda: self.eligible(protected))
+            raised = call.exception.identity if call and call.exception else None
+            alternative = yield Step("serve", line, None, lambda: self.eligible(protected), raised=raised)
             if alternative:
                 entry = [*protected.queues][alternative - 1]
                 call = protected.queues[entry].pop(0)

@@ -13,7 +13,7 @@ from tokens import Fault
 STEPS, CHOICES, LINE, REQUESTS, REQUEST_BYTES = 1_000_000, 10_000, 1_024, 4_096, 1_048_576
 NUMBER = re.compile("[0-9]{1,10}")
 RANGES = {"LOAD": (0, 32_768), "RUN": (1, 100_000), "STEP": (0, 9_999), "CHOOSE": (0, 9_999), "ADVANCE": (0, 10**9), "VARS": (0, 9_999), "SEAT": (0, 9_999)}
-ALONE = ("RESET", "CLOCK", "MOVES", "TASKS", "QUEUES", "OUTPUT", "QUIT")
+ALONE = ("RESET", "CLOCK", "MOVES", "TASKS", "QUEUES", "OBJECTS", "WAITS", "OUTPUT", "QUIT")
 REFUSALS = {
     10: "unknown command", 11: "bad argument", 12: "line too long", 13: "journal full", 14: "no program", 15: "no such task",
     16: "no such move", 17: "step budget", 18: "choice list full", 19: "not ASCII", 22: "source too long",
@@ -184,8 +184,7 @@ class Session:
 
     def ran(self, steps):
         state, raised = self.machine.state(), self.machine.tasks[0].raised
-        name = raised if isinstance(raised, str) or raised is None else raised[1]
-        return [f"ran {steps} {state}"] + ([f"main raised {name}"] if name and state == "ended" else [])
+        return [f"ran {steps} {state}"] + ([f"main raised {listings.exception_name(raised)}"] if raised and state == "ended" else [])
 
     def choose(self, choices):
         if len(self.machine.choices) + len(choices) > CHOICES:
@@ -208,6 +207,12 @@ class Session:
 
     def queues(self):
         return listings.queues(self.machine)
+
+    def objects(self):
+        return listings.objects(self.machine)
+
+    def waits(self):
+        return listings.waits(self.machine)
 
     def vars(self, number):
         lines = listings.variables(self.machine, number)

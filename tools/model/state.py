@@ -156,12 +156,14 @@ class TaskEntry:
 
 @dataclass(eq=False)
 class ProtectedObject:
-    """Its operations by their names; what its bodies see, and these once they are declared; the calls queued on its entries, oldest
-    first; the tasks that have an action on it under way, and whether that is of a function."""
+    """Its operations by their names; what its bodies see; its components; the declarative part that created it; its bodies; the calls
+    queued on its entries, oldest first; the tasks that have an action on it under way, and whether that is of a function."""
 
     name: str
     operations: dict
     scope: "Scope"
+    components: dict
+    part: "Frame"
     bodies: dict = field(default_factory=dict)
     queues: dict = field(default_factory=dict)
     actions: dict = field(default_factory=dict)
@@ -209,6 +211,17 @@ class Scope:
         return None
 
 
+class Ahead(Scope):
+    """What a body that stands further on will see: what is declared before it and not elaborated yet holds 0."""
+
+    def __init__(self, outer, zeros):
+        self.outer, self.zeros = outer, zeros
+
+    @property
+    def names(self):
+        return {name: zero for name, zero in self.zeros.items() if name not in self.outer.names}
+
+
 @dataclass(eq=False)
 class Frame:
     """Of a body, block, procedure, loop, accept, operation or entry; its variables so far, each with its name; the call that an accept
@@ -249,8 +262,8 @@ class Waits:
 class EntryCall:
     """Also of another operation. Its formals by their names, those that are copied back with the variables that get them, the queue of its
     entry, where a function's value goes, the protected object, if it is of one, the line of its statement, and the time at which it may
-    be cancelled, if one is said; whether it stays on its queue whatever happens to its caller. It is over, or cancelled, or neither; an
-    exception may have ended it."""
+    be cancelled, if one is said; the task or object and the entry on which it is made now; whether it stays on its queue whatever happens
+    to its caller. It is over, or cancelled, or neither; an exception may have ended it."""
 
     caller: "Running"
     formals: dict
@@ -260,6 +273,8 @@ class EntryCall:
     object: ProtectedObject = None
     line: int = None
     time: int = None
+    unit: object = None
+    entry: str = None
     stays: bool = False
     is_over: bool = False
     is_cancelled: bool = False
@@ -328,7 +343,7 @@ class Running:
 @dataclass
 class Step:
     """The master that it leaves, if it leaves one; what tells the alternatives among which it has a move for each; the object on which
-    it starts an action, if it does, and whether that is of a function."""
+    it starts an action, if it does, and whether that is of a function; the exception that is pending, by its identity."""
 
     kind: str
     line: int
@@ -336,6 +351,7 @@ class Step:
     alternatives: object = None
     object: ProtectedObject = None
     is_function: bool = False
+    raised: object = None
 
     def waits_for_object(self, task):
         return self.object is not None and any(

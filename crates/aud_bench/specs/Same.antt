@@ -3,7 +3,7 @@ use Rattle.std.specs.Prelude.{Bool, true, false, ◌==◌, ◌&&◌}
 use Rattle.std.specs.Str.{bytes_eq}
 use Rattle.aud_text.specs.declared.limits.Limits.{Limits}
 use Rattle.aud_debug.specs.declared.listing.Listing.{Listing}
-use Rattle.aud_debug.specs.declared.listing.Listing.TheVariants.{Moves, Tasks, Queues, Variables}
+use Rattle.aud_debug.specs.declared.listing.Listing.TheVariants.{Moves, Tasks, Queues, Variables, Objects, Waits}
 use Rattle.aud_bench.specs.declared.request.Request.{Request}
 use Rattle.aud_bench.specs.declared.request.Request.TheVariants.{Load, Reset, Run, Step, Choose, Advance, Clock, List, Output, Seat, Quit, Bad}
 use Rattle.aud_bench.specs.declared.request.BadRequest.{BadRequest}
@@ -21,6 +21,8 @@ same_listing Moves Moves = true
 same_listing Tasks Tasks = true
 same_listing Queues Queues = true
 same_listing (Variables task) (Variables other) = task == other
+same_listing Objects Objects = true
+same_listing Waits Waits = true
 same_listing _ _ = false
 
 unfoldable pub same_request : Request → Request → Bool

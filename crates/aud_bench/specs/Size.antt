@@ -3,7 +3,7 @@ use Rattle.std.specs.Prelude.{ℕ, ◌+◌, List, [], ◌∷◌, length, sum_by}
 use Rattle.std.specs.Fmt.{decimal}
 use Rattle.aud_text.specs.Lines.{line_count}
 use Rattle.aud_debug.specs.declared.listing.Listing.{Listing}
-use Rattle.aud_debug.specs.declared.listing.Listing.TheVariants.{Moves, Tasks, Queues, Variables}
+use Rattle.aud_debug.specs.declared.listing.Listing.TheVariants.{Moves, Tasks, Queues, Variables, Objects, Waits}
 use Rattle.aud_bench.specs.declared.request.Request.{Request}
 use Rattle.aud_bench.specs.declared.request.Request.TheVariants as request
 
@@ -16,6 +16,8 @@ listing_size Moves = 6
 listing_size Tasks = 6
 listing_size Queues = 7
 listing_size (Variables task) = 6 + length (decimal task)
+listing_size Objects = 8
+listing_size Waits = 6
 
 abbrev pub size : Request → ℕ
 size (request.Load source) = 6 + length (decimal (line_count source)) + length source

@@ -67,9 +67,10 @@ fn listing_size(listing: Listing) -> usize
     ensures { result ≡ listing_size listing }
 {
     match listing {
-        Listing::Moves | Listing::Tasks => 6,
+        Listing::Moves | Listing::Tasks | Listing::Waits => 6,
         Listing::Queues => 7,
         Listing::Variables(task) => 6 + digit_count(u64::from(task)),
+        Listing::Objects => 8,
     }
 }
 

@@ -20,6 +20,7 @@ use Rattle.aud_names.specs.Ties.Regions.{plain_region, plain_regions, plain_plac
 use Rattle.aud_check_bodies.specs.declared.declaration.DeclarativePart.{DeclarativePart}
 use Rattle.aud_fault.specs.declared.fault.Fault.{Fault}
 use Rattle.aud_fault.specs.Least.{noted}
+use Rattle.aud_check_bodies.specs.Regions.{shown_names}
 use Rattle.aud_check_bodies.specs.Tables.{Tables, Outcome, fine, no_tables, next_task, next_unit, task_kept, next_object, object_kept}
 use Rattle.aud_check_bodies.specs.Entries.{entry_numbers, naming}
 use Rattle.aud_check_bodies.specs.Tasks.{name_behind, with_task, created_by, place_named, task_entries, task_entries_faults, checked_task}
@@ -120,7 +121,7 @@ pub declares_object : {T E : Type 0} (r : Result T E) (old new : Option Fault) (
     → new ≡ noted old (declared_once i.name i.at first.region.symbols.entries ++ (parts_faults i.name operations hidden (plain_place first.region outer) t ++ right_name_at_end i.name last))
     → plain_region next.region ≡ with_object_parts x.around.parts (with_object i (next_object t) (plain_region first.region))
     → plain_typed_statements next.elaborations.items ≡ plain_typed_statements first.elaborations.items ++ declare_object at (next_object t) x.values ∷ []
-    → OnOk r (u ≡ object_kept i.name x.own.level x.entries x.tables)
+    → OnOk r (u ≡ object_kept i.name x.own.level (shown_names x.own.symbols) x.entries x.tables)
     → OnOk r (Declares old new outer first next u (checked_protected at i operations hidden last (plain_place first.region outer) t))
 declares_object (Ok y) old new outer first next t u at i operations hidden last x e h p q k =
     let place : Place = plain_place first.region outer in

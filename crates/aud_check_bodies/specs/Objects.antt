@@ -23,6 +23,7 @@ use Rattle.aud_names.specs.Rules.{declared_once, right_name_at_end, no_matching_
 use Rattle.aud_check_bodies.specs.Tables.{Tables, Outcome, fine, after, and_then, next_unit, unit_kept, next_entry, protected_entry_kept, next_object, object_kept}
 use Rattle.aud_check_bodies.specs.Declarations.{Declared, nothing_declared, subtype_faults, subtype_meant, marked, initial_faults, initial_value, with_symbol}
 use Rattle.aud_check_bodies.specs.Formals.{Formals, checked_formals}
+use Rattle.aud_check_bodies.specs.Regions.{shown_names}
 
 -- what an object has declared so far: its own region (RM 8.1); a region around that, in which its name means the object, and that is found
 -- behind its name; the initial values of its components; the numbers of its entries; and the tables
@@ -220,7 +221,7 @@ abbrev pub object_of_parts : ObjectDeclared → Pos → Ident → ℕ → Place 
 object_of_parts x at i number place = fine (record {
   place = in_region (with_object_parts x.around.parts (with_object i number (innermost place))) place;
   elaborations = tree.declare_object at number x.values ∷ [];
-}) (object_kept i.name x.own.level x.entries x.tables)
+}) (object_kept i.name x.own.level (shown_names x.own.symbols) x.entries x.tables)
 
 abbrev pub checked_protected : Pos → Ident → List Operation → Option (List PrivateItem) → Option Ident → Place → Tables → Outcome Declared
 checked_protected at i operations hidden last place t =
@@ -255,7 +256,7 @@ body_object None t = next_object t
 body_object (Some o) t = o.object
 
 abbrev pub object_tables : Option AwaitedObject → Ident → Tables → Tables
-object_tables None i t = object_kept i.name 0 [] t
+object_tables None i t = object_kept i.name 0 [] [] t
 object_tables (Some o) i t = t
 
 -- the bodies of its operations leave those that have none

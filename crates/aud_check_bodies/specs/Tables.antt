@@ -111,8 +111,9 @@ with_barrier number barrier t = record t { entries = slice_set t.entries number 
 abbrev pub next_object : Tables → ℕ
 next_object t = length t.objects
 
-abbrev pub object_kept : List ℕ → (level : ℕ) → List ℕ → Tables → Tables
-object_kept name level entries t = record t { objects = t.objects ++ (record { name = name; level = level; entries = entries }) ∷ [] }
+abbrev pub object_kept : List ℕ → (level : ℕ) → List tree.Named → List ℕ → Tables → Tables
+object_kept name level components entries t =
+    record t { objects = t.objects ++ (record { name = name; level = level; components = components; entries = entries }) ∷ [] }
 
 -- the formals of a unit
 abbrev pub profile_of : ℕ → Tables → List NamedParameter

@@ -21,7 +21,7 @@ ghost use Rattle.aud_check_bodies.specs.Ties.Tables.{plain_tables};
 
 use crate::declaration::{DeclarativePart, add_symbol, initial_value, subtype_mark};
 use crate::formal::{formals, result_mark};
-use crate::tables::Tables;
+use crate::tables::{Tables, names_of};
 use crate::within::regions_within;
 use aud_fault::fault::Least;
 use aud_names::array::Kind;
@@ -685,12 +685,14 @@ pub fn declare_protected(
         entries,
     } = parts;
     let level = own.level;
+    let components = names_of(&own);
     drop(own);
     let elaborated = elaborate_object(node.at, number, values, &mut part.elaborations);
     let (entries, ()) = both(entries, elaborated)?;
+    let (entries, components) = both(entries, components)?;
     let name = node.name.name.try_clone(alloc);
-    let (entries, name) = both(entries, name)?;
-    tables.keep_object(name, level, entries)
+    let ((entries, components), name) = both((entries, components), name)?;
+    tables.keep_object(name, level, components, entries)
 }
 
 /// Notes the objects that wait for a body still at the end of a declarative part (RM 3.11.1).
@@ -737,7 +739,7 @@ pub fn body_number(
             let number = tables.next_object();
             let alloc = region.alloc;
             let name = ident.name.try_clone(alloc)?;
-            tables.keep_object(name, 0, Vec::new(alloc))?;
+            tables.keep_object(name, 0, Vec::new(alloc), Vec::new(alloc))?;
             Ok(number)
         }
     }

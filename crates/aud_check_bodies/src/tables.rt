@@ -212,14 +212,21 @@ impl Tables {
         self.objects.len()
     }
 
-    /// Adds a protected object of this name and level with these entries.
-    pub fn keep_object(&mut self, name: Name, level: usize, entries: Vec<usize>) -> Made<()>
+    /// Adds a protected object of this name and level with these components and entries.
+    pub fn keep_object(
+        &mut self,
+        name: Name,
+        level: usize,
+        components: Vec<Named>,
+        entries: Vec<usize>,
+    ) -> Made<()>
         ensures { OnOk result (plain_tables self.new
-            ≡ object_kept name level entries.items (plain_tables self.old)) }
+            ≡ object_kept name level (plain_named_region components) entries.items (plain_tables self.old)) }
     {
         let object = ProtectedObject {
             name,
             level,
+            components,
             entries,
         };
         add_last(&mut self.objects, object)
@@ -329,8 +336,8 @@ fn add(name: &Name, meaning: Meaning, alloc: Global, names: &mut Vec<Named>) -> 
     }
 }
 
-// The names of a region that have cells, in the order of their declarations.
-fn names_of(region: &Region) -> Made<Vec<Named>>
+/// The names of a region that have cells, in the order of their declarations.
+pub fn names_of(region: &Region) -> Made<Vec<Named>>
     ensures { IfOk result (λ names. plain_named_region names
         ≡ shown_names region.now.symbols.entries) }
 {

@@ -326,14 +326,7 @@ fn creates(statement: &Statement) -> bool
 fn create_tasks(elaborations: &[Statement]) -> bool
     ensures { result ≡ create_tasks (plain_typed_statements elaborations.now) }
 {
-    let mut rest = elaborations;
-    while let Some((statement, others)) = rest.split_first() {
-        if creates(statement) {
-            return true;
-        }
-        rest = others;
-    }
-    false
+    elaborations.iter().any(|statement| creates(statement))
 }
 
 /// Adds to the elaborations before the `begin` of a task's body that its own activation has ended (RM 9.2(5)), and answers

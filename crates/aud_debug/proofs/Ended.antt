@@ -1,5 +1,7 @@
 -- A line is written and ended, and a page is handed out.
-use Rattle.std.proofs.Common.{◌≡◌, ℕ, suc, ◌+◌, List, [], ◌∷◌, ◌++◌, length, ap, sym, subst, ◌∙◌, arith, append_assoc}
+use Rattle.std.proofs.Common.{◌≡◌, ℕ, suc, ◌+◌, List, [], ◌∷◌, ◌++◌, length, Option, Some, None, IfOk, ap, sym, subst, ◌∙◌, arith, append_assoc}
+use Rattle.std.proofs.lemmas.Option.{same_Some}
+use Rattle.std.specs.Option.{ok_or}
 use Rattle.aud_typed.specs.declared.program.Program.{Program}
 use Rattle.aud_typed.specs.Ties.View.{plain_program}
 use Rattle.aud_meaning.specs.Configuration.{All, Configuration}
@@ -7,6 +9,7 @@ use Rattle.aud_meaning.specs.Listings.{View, view, view_at}
 use Rattle.aud_code.specs.Places.{Spot}
 use Rattle.aud_code.specs.Flat.{Flat, flat_controls}
 use Rattle.aud_machine.specs.Shown.{Shown, program_in}
+use Rattle.aud_machine.specs.Shows.{IfShows}
 use Rattle.aud_debug.specs.declared.lines.Lines.{Lines}
 use Rattle.aud_debug.specs.declared.page.Page.{Page}
 use Rattle.aud_debug.specs.Listed.{as_lines, ended}
@@ -42,3 +45,8 @@ viewed part m c p code s program same told =
     ap (λ x. part (view_at (plain_program x).plan (flat_controls (plain_program x).plan code) s)) program
     ∙ ap (λ x. part (view_at (program_in m).plan (flat_controls (program_in m).plan x) s)) same
     ∙ ap part told
+
+-- lines that are there are what is shown
+pub lines_told : {E : Type 0} (m : Shown) (part : Configuration → Lines) (found : Option Lines) (e : E) → IfShows m (λ c. found ≡ Some (part c)) → IfOk (ok_or found e) (λ lines. IfShows m (λ c. lines ≡ part c))
+lines_told m part None e told = tt
+lines_told m part (Some x) e told = λ c h. same_Some x (part c) (told c h)

@@ -7,3 +7,5 @@ pub mod Moving
 pub mod Pages
 pub mod Queued
 pub mod Tasked
+pub mod Waiting
+pub mod Watched

@@ -205,12 +205,12 @@ entries_missing (x ∷ ts) (suc n) past = entries_missing ts n (omega (arith, pa
 
 -- The declaration of an object in memory.
 
-pub object_found : (os : List ProtectedObject) (n : ℕ) (o : ProtectedObject) → n < length os → o ≡ get_or os n o → plain_object o ≡ slice_index_or (map plain_object os) n (record { name = []; level = 0; entries = [] })
+pub object_found : (os : List ProtectedObject) (n : ℕ) (o : ProtectedObject) → n < length os → o ≡ get_or os n o → plain_object o ≡ slice_index_or (map plain_object os) n (record { name = []; level = 0; components = []; entries = [] })
 object_found [] n o within at = absurd (omega (arith, within))
 object_found (x ∷ os) zero o within at = ap plain_object at
 object_found (x ∷ os) (suc n) o within at = object_found os n o (omega (arith, within)) at
 
-pub object_missing : (os : List ProtectedObject) (n : ℕ) → length os ≤ n → slice_index_or (map plain_object os) n (record { name = []; level = 0; entries = [] }) ≡ record { name = []; level = 0; entries = [] }
+pub object_missing : (os : List ProtectedObject) (n : ℕ) → length os ≤ n → slice_index_or (map plain_object os) n (record { name = []; level = 0; components = []; entries = [] }) ≡ record { name = []; level = 0; components = []; entries = [] }
 object_missing [] n past = refl
 object_missing (x ∷ os) zero past = absurd (omega (arith, past))
 object_missing (x ∷ os) (suc n) past = object_missing os n (omega (arith, past))

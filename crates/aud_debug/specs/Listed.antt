@@ -3,7 +3,7 @@ use Rattle.std.specs.Prelude.{ℕ, zero, suc, List, [], ◌∷◌, ◌++◌, len
 use Rattle.aud_meaning.specs.Listings.{View}
 use Rattle.aud_debug.specs.declared.lines.Lines.{Lines}
 use Rattle.aud_debug.specs.declared.listing.Listing.{Listing}
-use Rattle.aud_debug.specs.declared.listing.Listing.TheVariants.{Moves, Tasks, Queues, Variables}
+use Rattle.aud_debug.specs.declared.listing.Listing.TheVariants.{Moves, Tasks, Queues, Variables, Objects, Waits}
 
 -- each line followed by a line feed
 abbrev pub ended : List (List ℕ) → List ℕ
@@ -24,3 +24,5 @@ listed Moves v = Some (as_lines v.moves)
 listed Tasks v = Some (as_lines v.tasks)
 listed Queues v = Some (as_lines v.queues)
 listed (Variables n) v = variables_of n v
+listed Objects v = Some (as_lines v.objects)
+listed Waits v = Some (as_lines v.waits)

@@ -1,3 +1,4 @@
 pub mod Extents
 pub mod Pages
 pub mod Rows
+pub mod Watched

@@ -8,9 +8,11 @@ ghost use Rattle.aud_debug.specs.Listed.{listed};
 
 use crate::lines::Lines;
 use crate::moves::moves;
+use crate::objects::objects;
 use crate::queues::queues;
 use crate::tasks::tasks;
 use crate::variables::variables;
+use crate::waits::waits;
 use aud_machine::machine::Machine;
 use std::alloc::{AllocError, Global};
 
@@ -25,6 +27,10 @@ pub enum Listing {
     Queues,
     /// The variables in the open frames of the task of this number. Tasks are numbered from 1.
     Variables(u32),
+    /// The protected objects: who acts on them, their components, their barriers.
+    Objects,
+    /// Why tasks wait, and for whom.
+    Waits,
 }
 
 /// The lines of a listing. None where the task that it names was never created.
@@ -45,5 +51,7 @@ pub fn list(machine: &Machine, alloc: Global, listing: Listing) -> Result<Option
         Listing::Tasks => Ok(Some(tasks(machine, alloc)?)),
         Listing::Queues => Ok(Some(queues(machine, alloc)?)),
         Listing::Variables(task) => variables(machine, alloc, task),
+        Listing::Objects => Ok(Some(objects(machine, alloc)?)),
+        Listing::Waits => Ok(Some(waits(machine, alloc)?)),
     }
 }

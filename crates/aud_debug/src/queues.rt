@@ -4,7 +4,7 @@ ghost use Rattle.std.specs.Prelude.{◌≡◌, IfOk};
 ghost use Rattle.aud_text.specs.Ties.Adds.{Adds};
 ghost use Rattle.aud_typed.specs.Ties.View.{plain_program};
 ghost use Rattle.aud_meaning.specs.Listings.{entries_by, object_queues, task_queues, view, view_at};
-ghost use Rattle.aud_meaning.specs.Parts.{entry_plan, object_plan, owner_number};
+ghost use Rattle.aud_meaning.specs.Parts.{owner_number};
 ghost use Rattle.aud_code.specs.Flat.{flat_controls};
 ghost use Rattle.aud_machine.specs.Shown.{program_in};
 ghost use Rattle.aud_machine.specs.Shows.{IfShows};
@@ -12,6 +12,7 @@ ghost use Rattle.aud_debug.specs.Listed.{as_lines};
 ghost use Rattle.aud_debug.specs.Ties.Pages.{AddsLines};
 ghost use Rattle.aud_debug.specs.Ties.Rows.{calls_on, entry_lines, owner_name, owner_word, queue_head, queue_line};
 
+use crate::declared::{entry_name, object_name, protected_entries_of};
 use crate::lines::Lines;
 use crate::names::{number_of, push_name};
 use crate::page::Page;
@@ -96,17 +97,6 @@ fn entries_of<'a>(compiled: Compiled<'a>, task_type: Option<usize>) -> &'a [usiz
     }
 }
 
-// The entries of a declaration of a protected object.
-fn protected_entries_of<'a>(compiled: Compiled<'a>, declaration: usize) -> &'a [usize]
-    ensures { result.now
-        ≡ (object_plan (plain_program compiled.entry.program.now).plan declaration).entries }
-{
-    match compiled.program.objects.get(declaration) {
-        Some(object) => &object.entries,
-        None => &[],
-    }
-}
-
 // Writes that of an entry, if a call is queued there.
 fn push_queue(
     page: &mut Page,
@@ -185,25 +175,6 @@ fn push_owner(
             out.extend_from_slice(object_name(compiled, state.declaration(object)))?;
             Ok(())
         }
-    }
-}
-
-fn object_name<'a>(compiled: Compiled<'a>, declaration: usize) -> &'a [u8]
-    ensures { result.now
-        ≡ (object_plan (plain_program compiled.entry.program.now).plan declaration).name }
-{
-    match compiled.program.objects.get(declaration) {
-        Some(object) => object.name.as_bytes(),
-        None => &[],
-    }
-}
-
-fn entry_name<'a>(compiled: Compiled<'a>, entry: usize) -> &'a [u8]
-    ensures { result.now ≡ (entry_plan (plain_program compiled.entry.program.now).plan entry).name }
-{
-    match compiled.program.entries.get(entry) {
-        Some(entry) => entry.name.as_bytes(),
-        None => &[],
     }
 }
 

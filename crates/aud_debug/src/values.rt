@@ -55,7 +55,12 @@ fn push_variable(
     page.end_line()
 }
 
-fn push_values(out: &mut Vec<u8>, shown: Shown, cells: &[Int32]) -> Result<(), AllocError>
+/// Writes values, each behind a space.
+pub(crate) fn push_values(
+    out: &mut Vec<u8>,
+    shown: Shown,
+    cells: &[Int32],
+) -> Result<(), AllocError>
     ensures { Adds result out.old out.new (values (plain_shown shown) cells.now) }
 {
     for cell in cells {
@@ -81,8 +86,8 @@ fn image_of_truth(value: bool) -> &'static [u8]
     if value { b"TRUE" } else { b"FALSE" }
 }
 
-// How many cells it has.
-fn cells_of(shown: Shown) -> usize
+/// How many cells it has.
+pub(crate) fn cells_of(shown: Shown) -> usize
     ensures { result ≡ cells_of (plain_shown shown) }
 {
     match shown {
@@ -91,7 +96,8 @@ fn cells_of(shown: Shown) -> usize
     }
 }
 
-fn is_hidden(shown: Shown) -> bool
+/// Whether it is not shown.
+pub(crate) fn is_hidden(shown: Shown) -> bool
     ensures { result ≡ is_hidden (plain_shown shown) }
 {
     matches!(shown, Shown::Hidden(_))

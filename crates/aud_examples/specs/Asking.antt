@@ -17,6 +17,8 @@ use Rattle.aud_layout.specs.Law.{flat}
 use Rattle.aud_meaning.specs.Statements.{controls}
 use Rattle.aud_meaning.specs.Run.{own_move, moves_at, state_at, seen, step_with, run_with, main_raised, supplied, advanced, opening_with}
 use Rattle.aud_meaning.specs.Listings.{spaced, state_words, exception_name, vars, queues, tasks_view, moves_view}
+use Rattle.aud_meaning.specs.Listings.Objects.{objects_view}
+use Rattle.aud_meaning.specs.Listings.Waits.{waits_view}
 
 abbrev pub at : ℕ → ℕ → Pos
 at l c = record { line = l; col = c }
@@ -46,6 +48,8 @@ pub data Ask : Type 0 where
   Tasks : Ask
   Queues : Ask
   Vars : ℕ → Ask
+  Objects : Ask
+  Waits : Ask
   Output : Ask
 
 abbrev pub Lines : Type 0
@@ -85,6 +89,8 @@ module _ {C : Type 0} (plan : Plan) (k : Controls C) (limits : Limits) where
   told_by Tasks go c = go c (tasks_view plan k.barrier (seen plan k c))
   told_by Queues go c = go c (queues plan c)
   told_by (Vars t) go c = go c (vars plan (t - 1) c)
+  told_by Objects go c = go c (objects_view plan k.barrier c)
+  told_by Waits go c = go c (waits_view plan k.barrier (seen plan k c))
   told_by Output go c = go c (spaced (codes "bytes") (decimal (length c.shared.output)) ∷ lines_by c.shared.output [])
 
   abbrev pub answers_from : List Ask → All C → List Lines

@@ -2,3 +2,4 @@ pub mod Sessions
 pub mod Asking
 pub mod Programs
 pub mod Worked
+pub mod Watched

@@ -1,6 +1,7 @@
 // Sessions whose answers follow from the definitions by computing.
 
 ghost use Rattle.aud_examples.specs.Sessions.{NullProgram, NoProgram, Sum, ZeroDivision, Signs, Mixture, FailedActivation};
+ghost use Rattle.aud_examples.specs.Watched.{WatchedHold};
 ghost use Rattle.aud_examples.specs.Worked.{RowsHold};
 
 /// A program of one null statement ends in three steps.
@@ -42,4 +43,9 @@ pub fn failed_activation()
 /// hand, by their statements and by their code.
 pub fn programs()
     ensures { RowsHold }
+{}
+
+/// What is told of protected objects and of waiting tasks was worked out by hand too.
+pub fn watched()
+    ensures { WatchedHold }
 {}

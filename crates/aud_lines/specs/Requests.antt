@@ -64,6 +64,8 @@ command_of (word ∷ arguments) =
     else if bytes_eq word (codes "MOVES") then no_argument arguments (request.List listing.Moves)
     else if bytes_eq word (codes "TASKS") then no_argument arguments (request.List listing.Tasks)
     else if bytes_eq word (codes "QUEUES") then no_argument arguments (request.List listing.Queues)
+    else if bytes_eq word (codes "OBJECTS") then no_argument arguments (request.List listing.Objects)
+    else if bytes_eq word (codes "WAITS") then no_argument arguments (request.List listing.Waits)
     else if bytes_eq word (codes "VARS") then one_number 0 TASK arguments (λ n. Whole (request.List (listing.Variables n)))
     else if bytes_eq word (codes "OUTPUT") then no_argument arguments request.Output
     else if bytes_eq word (codes "SEAT") then one_number 0 SEAT arguments (λ n. Whole (request.Seat n))

@@ -93,6 +93,10 @@ fn command_with(alloc: Global, word: &[u8], arguments: &[u8]) -> Result<Command,
         Ok(no_argument(arguments, Request::List(Listing::Tasks)))
     } else if is(word, b"QUEUES") {
         Ok(no_argument(arguments, Request::List(Listing::Queues)))
+    } else if is(word, b"OBJECTS") {
+        Ok(no_argument(arguments, Request::List(Listing::Objects)))
+    } else if is(word, b"WAITS") {
+        Ok(no_argument(arguments, Request::List(Listing::Waits)))
     } else if is(word, b"VARS") {
         Ok(variables(arguments))
     } else if is(word, b"OUTPUT") {

@@ -4,4 +4,4 @@
 pub mod machine;
 
 // Who shows a machine asks its tasks.
-pub use aud_tasks::{coming, compiled, status};
+pub use aud_tasks::{coming, compiled, holds, status};

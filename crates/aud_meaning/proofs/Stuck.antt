@@ -130,7 +130,7 @@ module _ (plan : Plan) (barrier : ℕ → Sight → Result Bool Raise) (s : All 
   idle_same (owner.Object o) = refl
 
   call_time_same : (call : Call) → call_time plan barrier call later ≡ call_time plan barrier call s
-  call_time_same call = ap (λ b. if is_queued call.state && not call.stays && b then call_time_by plan barrier call.form else []) (idle_same call.owner)
+  call_time_same call = ap (λ b. if is_queued call.state && not call.stays && b then call_time_by call.form else []) (idle_same call.owner)
 
   end_same : (master : Option ℕ) (n : ℕ) → end_moves plan barrier master n later ≡ end_moves plan barrier master n s
   end_same None n = refl

@@ -336,7 +336,7 @@ abbrev pub task_plan : Plan → ℕ → TaskPlan
 task_plan plan n = slice_index_or plan.tasks n (record { unit = 0; entries = [] })
 
 abbrev pub object_plan : Plan → ℕ → ObjectPlan
-object_plan plan n = slice_index_or plan.objects n (record { name = []; level = 0; entries = [] })
+object_plan plan n = slice_index_or plan.objects n (record { name = []; level = 0; components = []; entries = [] })
 
 abbrev pub entry_plan : Plan → ℕ → EntryPlan
 entry_plan plan n = slice_index_or plan.entries n (record { name = []; formals = 0; unit = 0 })

@@ -6,23 +6,22 @@ use Rattle.aud_typed.specs.Tree.{Plan}
 use Rattle.aud_meaning.specs.Configuration.{All}
 use Rattle.aud_meaning.specs.Control.{Controls}
 use Rattle.aud_meaning.specs.declared.state.Move.{Move}
-use Rattle.aud_meaning.specs.Run.{moves, moves_at, state_at, seen, step_with, take_by, take_one, run_by, run_with}
+use Rattle.aud_meaning.specs.Run.{moves_at, state_at, seen, step_with, take_by, take_one, run_by, run_with}
 use Rattle.aud_over.specs.Over.{forgotten}
 use Rattle.aud_over.specs.Looks.{Looks}
-use Rattle.aud_meaning.specs.declared.state.State.{State}
-use Rattle.aud_meaning.specs.Listings.{View, view_at, vars, queues, tasks_view, moves_view}
+use Rattle.aud_meaning.specs.Listings.{view_at, vars, queues, tasks_view, moves_view}
+use Rattle.aud_meaning.specs.Listings.Objects.{objects_view}
+use Rattle.aud_meaning.specs.Listings.Waits.{waits_view}
 use Rattle.aud_over.specs.Law.{IsOneOf}
 use Rattle.aud_over.proofs.Beside.{beside}
 use Rattle.aud_over.proofs.Forgetting.{kept_in, forgotten_may, left_same}
 use Rattle.aud_over.proofs.Looking.{moves_at_same, state_at_same}
 use Rattle.aud_over.proofs.Listing.{vars_same, queues_same, tasks_at_same, moves_listed_same}
+use Rattle.aud_over.proofs.Watching.{objects_view_same, waits_at_same}
 use Rattle.aud_over.proofs.Runs.{MayStep, may_step, step_chosen, choosing, step_beside}
 
 pub again : {C : Type 0} (c : All C) → forgotten (forgotten c) ≡ forgotten c
 again c = sym (left_same (kept_in c) c (forgotten c) (beside (kept_in c) c (forgotten c).shared.frames (forgotten c).shared.calls (forgotten_may c)))
-
-abbrev shown : List (List ℕ) → List (List ℕ) → (ℕ → List (List ℕ)) → List (List ℕ) → ℕ → List ℕ → State → View
-shown tasks queues vars moves clock output state = record { tasks = tasks; queues = queues; vars = vars; moves = moves; clock = clock; output = output; state = state }
 
 module _ {C : Type 0} (plan : Plan) (k : Controls C) (through : Looks k) where
   pub moves_left : (c d : All C) → forgotten c ≡ forgotten d → moves_at plan k c ≡ moves_at plan k d
@@ -120,18 +119,26 @@ module _ {C : Type 0} (plan : Plan) (k : Controls C) (through : Looks k) where
       of : (x : All C) → moves_view plan k.barrier (seen plan k x) ≡ moves_view plan k.barrier (seen plan k (forgotten x))
       of x = moves_listed_same (kept_in x) plan k through x (forgotten x).shared.frames (forgotten x).shared.calls (forgotten_may x)
 
+  pub objects_left : (c d : All C) → forgotten c ≡ forgotten d → objects_view plan k.barrier c ≡ objects_view plan k.barrier d
+  objects_left c d h = of c ∙ ap (objects_view plan k.barrier) h ∙ sym (of d)
+    where
+      of : (x : All C) → objects_view plan k.barrier x ≡ objects_view plan k.barrier (forgotten x)
+      of x = objects_view_same (kept_in x) plan k.barrier through.barrier x (forgotten x).shared.frames (forgotten x).shared.calls (forgotten_may x)
+
+  pub waits_left : (c d : All C) → forgotten c ≡ forgotten d → waits_view plan k.barrier (seen plan k c) ≡ waits_view plan k.barrier (seen plan k d)
+  waits_left c d h = of c ∙ ap (λ x. waits_view plan k.barrier (seen plan k x)) h ∙ sym (of d)
+    where
+      of : (x : All C) → waits_view plan k.barrier (seen plan k x) ≡ waits_view plan k.barrier (seen plan k (forgotten x))
+      of x = waits_at_same (kept_in x) plan k through x (forgotten x).shared.frames (forgotten x).shared.calls (forgotten_may x)
+
   pub view_left : (c d : All C) → forgotten c ≡ forgotten d → view_at plan k c ≡ view_at plan k d
   view_left c d h =
-      ap (λ x. shown x (queues plan c) (λ n. vars plan n c) (moves_of c) c.clock c.shared.output (state_at plan k c)) (tasks_left c d h)
-      ∙ ap (λ x. shown (tasks_of d) x (λ n. vars plan n c) (moves_of c) c.clock c.shared.output (state_at plan k c)) (queues_left c d h)
-      ∙ ap (λ x. shown (tasks_of d) (queues plan d) x (moves_of c) c.clock c.shared.output (state_at plan k c)) (fun_ext (λ n. vars_left n c d h))
-      ∙ ap (λ x. shown (tasks_of d) (queues plan d) (λ n. vars plan n d) x c.clock c.shared.output (state_at plan k c)) (moves_listed_left c d h)
-      ∙ ap (λ x. shown (tasks_of d) (queues plan d) (λ n. vars plan n d) (moves_of d) x c.shared.output (state_at plan k c)) (ap (λ (a : All C). a.clock) h)
-      ∙ ap (λ x. shown (tasks_of d) (queues plan d) (λ n. vars plan n d) (moves_of d) d.clock x (state_at plan k c)) (ap (λ (a : All C). a.shared.output) h)
-      ∙ ap (λ x. shown (tasks_of d) (queues plan d) (λ n. vars plan n d) (moves_of d) d.clock d.shared.output x) (state_left c d h)
-    where
-      tasks_of : All C → List (List ℕ)
-      tasks_of x = tasks_view plan k.barrier (seen plan k x)
-
-      moves_of : All C → List (List ℕ)
-      moves_of x = moves_view plan k.barrier (seen plan k x)
+      ap (λ x. record (view_at plan k c) { tasks = x }) (tasks_left c d h)
+      ∙ ap (λ x. record (view_at plan k c) { tasks = (view_at plan k d).tasks; queues = x }) (queues_left c d h)
+      ∙ ap (λ x. record (view_at plan k d) { vars = x; moves = (view_at plan k c).moves; objects = (view_at plan k c).objects; waits = (view_at plan k c).waits; clock = c.clock; output = c.shared.output; state = state_at plan k c }) (fun_ext (λ n. vars_left n c d h))
+      ∙ ap (λ x. record (view_at plan k d) { moves = x; objects = (view_at plan k c).objects; waits = (view_at plan k c).waits; clock = c.clock; output = c.shared.output; state = state_at plan k c }) (moves_listed_left c d h)
+      ∙ ap (λ x. record (view_at plan k d) { objects = x; waits = (view_at plan k c).waits; clock = c.clock; output = c.shared.output; state = state_at plan k c }) (objects_left c d h)
+      ∙ ap (λ x. record (view_at plan k d) { waits = x; clock = c.clock; output = c.shared.output; state = state_at plan k c }) (waits_left c d h)
+      ∙ ap (λ x. record (view_at plan k d) { clock = x; output = c.shared.output; state = state_at plan k c }) (ap (λ (a : All C). a.clock) h)
+      ∙ ap (λ x. record (view_at plan k d) { output = x; state = state_at plan k c }) (ap (λ (a : All C). a.shared.output) h)
+      ∙ ap (λ x. record (view_at plan k d) { state = x }) (state_left c d h)

@@ -11,6 +11,7 @@ pub mod Runs
 pub mod Forgetting
 pub mod Left
 pub mod Listing
+pub mod Watching
 pub mod Evaluating
 pub mod Asking
 pub mod Coding

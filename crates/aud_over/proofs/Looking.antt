@@ -90,8 +90,8 @@ module _ (p : Kept) (plan : Plan) (barrier : ℕ → Sight → Result Bool Raise
 
   time_alike : (c : All Seen) (a b : Call) → is_call_over a.state ≡ true → is_call_over b.state ≡ true → call_time plan barrier a c ≡ call_time plan barrier b c
   time_alike c a b h g =
-      false_three (is_queued a.state) (not a.stays) (owner_idle plan barrier a.owner c) (call_time_by plan barrier a.form) [] (not_queued a.state h)
-      ∙ sym (false_three (is_queued b.state) (not b.stays) (owner_idle plan barrier b.owner c) (call_time_by plan barrier b.form) [] (not_queued b.state g))
+      false_three (is_queued a.state) (not a.stays) (owner_idle plan barrier a.owner c) (call_time_by a.form) [] (not_queued a.state h)
+      ∙ sym (false_three (is_queued b.state) (not b.stays) (owner_idle plan barrier b.owner c) (call_time_by b.form) [] (not_queued b.state g))
 
   idle_same : (o : Owner) (c : All Seen) (fs : List Frame) (cs : List Call) → owner_idle plan barrier o c ≡ owner_idle plan barrier o (with_kept fs cs c)
   idle_same (owner.Task n) c fs cs = refl
@@ -100,7 +100,7 @@ module _ (p : Kept) (plan : Plan) (barrier : ℕ → Sight → Result Bool Raise
   pub time_same : (id : ℕ) (c : All Seen) (fs : List Frame) (cs : List Call) → MayHave p c fs cs → call_time plan barrier (call_of id c) c ≡ call_time plan barrier (call_of id (with_kept fs cs c)) (with_kept fs cs c)
   time_same id c fs cs m =
       told_same p.kept (λ (a : Call). call_time plan barrier a c) (time_alike c) 0 c.shared.calls cs m.calls id
-      ∙ ap (λ b. if is_queued (call_of id (with_kept fs cs c)).state && not (call_of id (with_kept fs cs c)).stays && b then call_time_by plan barrier (call_of id (with_kept fs cs c)).form else []) (idle_same (call_of id (with_kept fs cs c)).owner c fs cs)
+      ∙ ap (λ b. if is_queued (call_of id (with_kept fs cs c)).state && not (call_of id (with_kept fs cs c)).stays && b then call_time_by (call_of id (with_kept fs cs c)).form else []) (idle_same (call_of id (with_kept fs cs c)).owner c fs cs)
 
   abbrev is_some_waiting : List Waiting → Bool
   is_some_waiting [] = false

@@ -133,7 +133,7 @@ module _ (plan : Plan) (barrier : ℕ → Sight → Result Bool Raise) where
   -- a call that may be cancelled is queued
   queued_of : (b : Bool) (id n : ℕ) (m : Move) (c : All Seen) → is_queued (call_of id c).state ≡ b → IsOneOf m (turn_moves plan barrier (cancelling id) n c) → is_queued (call_of id c).state ≡ true
   queued_of true id n m c e h = e
-  queued_of false id n m c e h = absurd (subst (λ b. IsOneOf m (map (λ time. own_move n) (filter (λ time. nat_le time c.clock) (if b && not (call_of id c).stays && owner_idle plan barrier (call_of id c).owner c then call_time_by plan barrier (call_of id c).form else [])))) e h)
+  queued_of false id n m c e h = absurd (subst (λ b. IsOneOf m (map (λ time. own_move n) (filter (λ time. nat_le time c.clock) (if b && not (call_of id c).stays && owner_idle plan barrier (call_of id c).owner c then call_time_by (call_of id c).form else [])))) e h)
 
   -- a call that is cancelled is queued
   abbrev QueuedIf : Turn → All Seen → Type 0

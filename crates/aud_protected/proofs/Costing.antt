@@ -5,7 +5,7 @@ use Rattle.aud_typed.specs.Tree.{ObjectPlan}
 use Rattle.aud_protected.specs.Counting.{costs, most_among}
 
 -- those of one object
-pub asked_few : (cost : ℕ → ℕ) (os : List ObjectPlan) (n : ℕ) → costs cost (slice_index_or os n (record { name = []; level = 0; entries = [] })).entries ≤ most_among cost os
+pub asked_few : (cost : ℕ → ℕ) (os : List ObjectPlan) (n : ℕ) → costs cost (slice_index_or os n (record { name = []; level = 0; components = []; entries = [] })).entries ≤ most_among cost os
 asked_few cost [] n = omega arith
 asked_few cost (o ∷ os) zero = omega arith
 asked_few cost (o ∷ os) (suc n) = let h = asked_few cost os n in omega (arith, h)

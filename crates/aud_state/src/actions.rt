@@ -172,6 +172,16 @@ impl State {
         }
     }
 
+    /// The actions under way on an object, in the order in which they began.
+    pub fn actions(&self, object: usize) -> &[Action]
+        ensures { result.now ≡ (object_of object self.now).actions }
+    {
+        match self.objects.get(object) {
+            Some(found) => &found.actions,
+            None => &[],
+        }
+    }
+
     /// How many objects were ever created.
     pub fn objects(&self) -> usize
         ensures { result ≡ length self.now.shared.objects }

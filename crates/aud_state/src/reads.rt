@@ -15,7 +15,8 @@ use crate::task::Task;
 use aud_calls::calls::cancelling::cancel_time;
 use aud_code::sound_code::SoundCode;
 use aud_meaning::state::{
-    Again, CallState, Form, OpenDelay, Owner, Pending, Restart, Serving, Status, StepKind,
+    Again, CallState, Form, OpenAccept, OpenDelay, Owner, Pending, Restart, Serving, Status,
+    StepKind,
 };
 use aud_store::stack::Open;
 use aud_text::int32::Int32;
@@ -117,6 +118,30 @@ impl State {
             return found.condition.delays();
         }
         &[]
+    }
+
+    /// The accepts that it waits at, in the order of the text.
+    #[tactic(auto, using(crate::proofs::TaskLaws::Changed::own_got, crate::proofs::TaskLaws::Changed::own_past))]
+    pub fn accepts(&self, task: usize) -> &[OpenAccept]
+        ensures { result.now ≡ (own_of task self.now).waits.accepts }
+    {
+        if task < self.tasks.len() {
+            let found = &self.tasks[task];
+            return found.condition.accepts();
+        }
+        &[]
+    }
+
+    /// Whether it waits at an open terminate alternative.
+    #[tactic(auto, using(crate::proofs::TaskLaws::Changed::own_got, crate::proofs::TaskLaws::Changed::own_past))]
+    pub fn has_terminate(&self, task: usize) -> bool
+        ensures { result ≡ (own_of task self.now).waits.terminate }
+    {
+        if task < self.tasks.len() {
+            let found = &self.tasks[task];
+            return found.condition.has_terminate();
+        }
+        false
     }
 
     /// Its open frames, the outermost one first.

@@ -1,3 +1,4 @@
+pub mod Held
 pub mod Listed
 pub mod Seen
 pub mod Shown

@@ -4,6 +4,7 @@ pub mod Moving
 pub mod Enabled
 pub mod Listed
 pub mod Shown
+pub mod Held
 pub mod Running
 pub mod Acting
 pub mod Endings

@@ -12,6 +12,7 @@ mod enabled;
 mod endings;
 mod entries;
 mod hindering;
+pub mod holds;
 mod leave;
 mod leaving;
 pub mod moves;

@@ -779,11 +779,13 @@ impl Drop for TaskType {
     }
 }
 
-/// A declaration of a protected object: its name, how many frames are open around its own, and its entries, by their numbers
-/// (RM 9.4). One more is open around the frame of each operation and entry body, the object's own.
+/// A declaration of a protected object: its name, how many frames are open around its own, its components in the order of their
+/// declarations, and its entries, by their numbers (RM 9.4). One more is open around the frame of each operation and entry body,
+/// the object's own.
 pub struct ProtectedObject {
     pub name: Name,
     pub level: usize,
+    pub components: Vec<Named>,
     pub entries: Vec<usize>,
 }
 
@@ -792,9 +794,11 @@ impl Drop for ProtectedObject {
         let ProtectedObject {
             name,
             level: _,
+            components,
             entries,
         } = self;
         drop(name);
+        drop(components);
         drop(entries);
     }
 }

@@ -5,7 +5,7 @@ use Rattle.std.specs.Cmp.Lexicographic.{bytes_decides}
 use Rattle.std.proofs.Common.{◌≡◌, ℕ, true, refl, ap, ◌∙◌, arith}
 use Rattle.aud_bench.specs.declared.request.Request.{Request}
 use Rattle.aud_debug.specs.declared.listing.Listing.{Listing}
-use Rattle.aud_debug.specs.declared.listing.Listing.TheVariants.{Moves, Tasks, Queues, Variables}
+use Rattle.aud_debug.specs.declared.listing.Listing.TheVariants.{Moves, Tasks, Queues, Variables, Objects, Waits}
 use Rattle.aud_bench.specs.declared.request.Request.TheVariants.{Load, Reset, Run, Step, Choose, Advance, Clock, List, Output, Seat, Quit, Bad}
 use Rattle.aud_bench.specs.declared.request.BadRequest.{BadRequest}
 use Rattle.aud_bench.specs.declared.request.BadRequest.TheVariants.{UnknownCommand, BadArgument, LineTooLong, NotAscii}
@@ -35,6 +35,8 @@ listing_is Moves Moves h = refl
 listing_is Tasks Tasks h = refl
 listing_is Queues Queues h = refl
 listing_is (Variables task) (Variables other) h = ap Variables (eq_true task other h)
+listing_is Objects Objects h = refl
+listing_is Waits Waits h = refl
 listing_is _ _ h = absurd (cc)
 
 listing_self : (a : Listing) → same_listing a a ≡ true
@@ -42,6 +44,8 @@ listing_self Moves = refl
 listing_self Tasks = refl
 listing_self Queues = refl
 listing_self (Variables task) = eq_self task
+listing_self Objects = refl
+listing_self Waits = refl
 
 pub same_is : (x y : Request) → same_request x y ≡ true → x ≡ y
 unfolding same_request

@@ -12,6 +12,7 @@ use Rattle.aud_names.specs.declared.parts.PartKind.TheVariants as part
 use Rattle.aud_names.specs.Objects.{awaited_parts}
 use Rattle.aud_names.specs.Names as names
 use Rattle.aud_names.specs.Names.{Region, Place}
+use Rattle.aud_check_bodies.specs.Regions.{shown_names}
 use Rattle.aud_check_bodies.specs.Tables.{Tables, Outcome, with_region, region_kept, unit_kept}
 use Rattle.aud_check_bodies.specs.Accepts as accepts
 use Rattle.aud_check_bodies.specs.Entries as entries
@@ -292,7 +293,7 @@ protected_grows : (at : Pos) (i : Ident) (operations : List plain.Operation) (hi
 unfolding DeclarationGrows
 protected_grows at i operations hidden last n t =
     let x = objects.parts_declared i.name operations hidden n t in
-    further {u = x.tables} (parts_grow i.name operations hidden n t) (object_kept_grows i.name x.own.level x.entries x.tables (parts_distinct i.name operations hidden n t))
+    further {u = x.tables} (parts_grow i.name operations hidden n t) (object_kept_grows i.name x.own.level (shown_names x.own.symbols) x.entries x.tables (parts_distinct i.name operations hidden n t))
 
 -- bodies of operations
 
@@ -353,7 +354,7 @@ unfolding OperationGrows BodiesGrow
 more_bodies_grow x xs o awaited t f g = let first = s.checked_operation x o awaited t in further {u = first.tables} f (g first.made first.tables)
 
 body_object_grows : (found : Option AwaitedObject) (i : Ident) (t : Tables) → Grows t (objects.object_tables found i t)
-body_object_grows None i t = object_kept_grows i.name 0 [] t tt
+body_object_grows None i t = object_kept_grows i.name 0 [] [] t tt
 body_object_grows (Some o) i t = same t
 
 protected_body_grows : (at : Pos) (i : Ident) (inner : plain.OperationBodies) (last : Option Ident) (n : Place) (t : Tables) → ((o : BodyPlaces) (awaited : List AwaitedPart) (u : Tables) → BodiesGrow inner o awaited u) → DeclarationGrows (plain.protected_body at i inner last) n t

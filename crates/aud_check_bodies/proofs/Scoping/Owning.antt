@@ -18,6 +18,7 @@ use Rattle.aud_names.specs.declared.parts.PartKind.TheVariants as part
 use Rattle.aud_names.specs.Objects.{awaited_parts}
 use Rattle.aud_names.specs.Names as names
 use Rattle.aud_names.specs.Names.{Region, Place, main_place}
+use Rattle.aud_check_bodies.specs.Regions.{shown_names}
 use Rattle.aud_check_bodies.specs.Tables.{Tables, Outcome, no_body, region_kept, region_named, with_region, unit_kept, with_unit, task_kept, protected_entry, with_barrier, object_kept}
 use Rattle.aud_check_bodies.specs.Accepts as accepts
 use Rattle.aud_check_bodies.specs.Declarations as d
@@ -218,9 +219,9 @@ task_more numbers t h =
     let more = more_units (entries_of_tasks t.tasks ++ numbers) (entries_of_objects t.objects ++ []) t.entries (length t.units) (length (t.units ++ no_body ∷ [])) (omega (arith, length_push t.units no_body)) h in
     subst (λ l. OwnedIn l (entries_of_objects t.objects ++ []) t.entries (length (t.units ++ no_body ∷ []))) (sym same) more
 
-object_more : (name : List ℕ) (level : ℕ) (numbers : List ℕ) (t : Tables) → OwnedWith [] numbers t → Owned (object_kept name level numbers t)
-object_more name level numbers t h =
-    let object : tree.ObjectPlan = record { name = name; level = level; entries = numbers } in
+object_more : (name : List ℕ) (level : ℕ) (components : List tree.Named) (numbers : List ℕ) (t : Tables) → OwnedWith [] numbers t → Owned (object_kept name level components numbers t)
+object_more name level components numbers t h =
+    let object : tree.ObjectPlan = record { name = name; level = level; components = components; entries = numbers } in
     let same : entries_of_objects (t.objects ++ object ∷ []) ++ [] ≡ entries_of_objects t.objects ++ numbers = append-nil (entries_of_objects (t.objects ++ object ∷ [])) ∙ objects_with t.objects object in
     subst (λ l. OwnedIn (entries_of_tasks t.tasks ++ []) l t.entries (length t.units)) (sym same) h
 
@@ -294,7 +295,7 @@ none_awaited None t h = task_more [] t h
 none_awaited (Some a) t h = h
 
 object_owned : (found : Option AwaitedObject) (i : Ident) (t : Tables) → Owned t → Owned (objects.object_tables found i t)
-object_owned None i t h = object_more i.name 0 [] t h
+object_owned None i t h = object_more i.name 0 [] [] t h
 object_owned (Some o) i t h = h
 
 kept_owned : (found : Option PartKind) (t : Tables) → Owned t → Owned (operations.operation_kept found t)
@@ -412,7 +413,7 @@ mutual
       let number = length t.objects in
       let first = objects.declared_operations number operations n.regions (objects.no_parts i.name n t) in
       let x = objects.parts_declared i.name operations hidden n t in
-      object_more i.name x.own.level x.entries x.tables (items_added number (objects.hidden_items hidden) n.regions first (operations_added number operations n.regions (objects.no_parts i.name n t) h))
+      object_more i.name x.own.level (shown_names x.own.symbols) x.entries x.tables (items_added number (objects.hidden_items hidden) n.regions first (operations_added number operations n.regions (objects.no_parts i.name n t) h))
   declaration_owned (plain.protected_body at i inner last) n t h =
       let found = objects.object_awaited i n in
       let here : Place = objects.object_behind i n in

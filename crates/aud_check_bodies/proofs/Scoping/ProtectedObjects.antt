@@ -20,6 +20,7 @@ use Rattle.aud_fault.specs.declared.fault.Fault.{Fault}
 use Rattle.aud_names.specs.Names as names
 use Rattle.aud_names.specs.Names.{Region, Place}
 use Rattle.aud_names.specs.Rules as rules
+use Rattle.aud_check_bodies.specs.Regions.{shown_names}
 use Rattle.aud_check_bodies.specs.Tables.{Tables, Outcome, no_body, region_kept, with_unit, object_kept}
 use Rattle.aud_check_bodies.specs.Objects as objects
 use Rattle.aud_check_bodies.specs.Objects.{ObjectDeclared}
@@ -47,15 +48,15 @@ use Rattle.aud_check_bodies.proofs.Scoping.Bodies.{counted_frame, entering_fine}
 
 module _ (plan : Plan) (entries : List Entry) where
   object_fine_with : (at : Pos) (i : Ident) (hidden : Option (List plain.PrivateItem)) (n : Place) (t : Tables) (outer : Scope) (full : Elaborated) (base : ℕ) (x : ObjectDeclared) → base ≤ length t.units → InBody (seen plan entries t) outer full n → InPart plan entries base (outer ++ full ∷ []) (waits_in (names.innermost n)) t
-      → Declaring plan entries base t n i.name (length t.objects) ((outer ++ full ∷ []) ++ elaborated x.own ∷ []) (outer ++ elaborated (names.innermost n) ∷ []) x → InPlan plan t (object_kept i.name x.own.level x.entries x.tables) → AreDistinct x.entries → rules.declared_once i.name i.at (names.innermost n).symbols ≡ []
-      → DeclaredScoped (seen plan entries (object_kept i.name x.own.level x.entries x.tables)) outer full n (objects.object_of_parts x at i (length t.objects) n).made
-      × InPart plan entries base (outer ++ full ∷ []) (waits_in (names.innermost (objects.object_of_parts x at i (length t.objects) n).made.place)) (object_kept i.name x.own.level x.entries x.tables)
-      × Stay base t (object_kept i.name x.own.level x.entries x.tables)
-      × (Barred plan entries t → Barred plan entries (object_kept i.name x.own.level x.entries x.tables))
+      → Declaring plan entries base t n i.name (length t.objects) ((outer ++ full ∷ []) ++ elaborated x.own ∷ []) (outer ++ elaborated (names.innermost n) ∷ []) x → InPlan plan t (object_kept i.name x.own.level (shown_names x.own.symbols) x.entries x.tables) → AreDistinct x.entries → rules.declared_once i.name i.at (names.innermost n).symbols ≡ []
+      → DeclaredScoped (seen plan entries (object_kept i.name x.own.level (shown_names x.own.symbols) x.entries x.tables)) outer full n (objects.object_of_parts x at i (length t.objects) n).made
+      × InPart plan entries base (outer ++ full ∷ []) (waits_in (names.innermost (objects.object_of_parts x at i (length t.objects) n).made.place)) (object_kept i.name x.own.level (shown_names x.own.symbols) x.entries x.tables)
+      × Stay base t (object_kept i.name x.own.level (shown_names x.own.symbols) x.entries x.tables)
+      × (Barred plan entries t → Barred plan entries (object_kept i.name x.own.level (shown_names x.own.symbols) x.entries x.tables))
   object_fine_with at i hidden n t outer full base x after inside part h p distinct once =
       let before : Region = names.innermost n in
       let number = length t.objects in
-      let u : Tables = object_kept i.name x.own.level x.entries x.tables in
+      let u : Tables = object_kept i.name x.own.level (shown_names x.own.symbols) x.entries x.tables in
       let scope : Scope = outer ++ full ∷ [] in
       let level = before.level + 1 in
       let qs = x.around.parts in
@@ -65,10 +66,10 @@ module _ (plan : Plan) (entries : List Entry) where
       let fresh : names.is_declared i.name before.symbols ≡ false = not_declared _ _ once in
       let declared_as : objects.with_object i number before ≡ objects.awaiting_object i number named = rw fresh in
       let last : objects.with_object_parts qs (objects.with_object i number before) ≡ new = ap (objects.with_object_parts qs) declared_as in
-      let kept = object_kept_grows i.name x.own.level x.entries x.tables distinct in
+      let kept = object_kept_grows i.name x.own.level (shown_names x.own.symbols) x.entries x.tables distinct in
       let grown = further {u = x.tables} h.grows kept in
       let later = body_grown plan entries t u outer full n grown inside in
-      let object : tree.ObjectPlan = record { name = i.name; level = x.own.level; entries = x.entries } in
+      let object : tree.ObjectPlan = record { name = i.name; level = x.own.level; components = shown_names x.own.symbols; entries = x.entries } in
       let long = length_push x.tables.objects object in
       let planned = p.objects number (omega (arith, long, h.grows.objects)) in
       let same : length x.tables.objects ≡ number = h.count in
@@ -117,8 +118,8 @@ module _ (plan : Plan) (entries : List Entry) where
       let frames : Scope = scope ++ elaborated x.own ∷ [] in
       let items = objects.hidden_items hidden in
       let distinct = parts_distinct i.name operations hidden n t in
-      let kept = object_kept_grows i.name x.own.level x.entries x.tables distinct in
-      let declared_in_plan = first_in_plan plan t x.tables (object_kept i.name x.own.level x.entries x.tables) kept p in
+      let kept = object_kept_grows i.name x.own.level (shown_names x.own.symbols) x.entries x.tables distinct in
+      let declared_in_plan = first_in_plan plan t x.tables (object_kept i.name x.own.level (shown_names x.own.symbols) x.entries x.tables) kept p in
       let e1 = in_operations number operations n.regions none frames in
       let e2 = in_items number items n.regions first frames in
       let g1 = operations_grow number operations n.regions none in

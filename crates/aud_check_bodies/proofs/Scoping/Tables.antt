@@ -148,8 +148,8 @@ object_distinct [] o h once = (once, tt)
 object_distinct (x ∷ os) o h once = (h.0, object_distinct os o h.1 once)
 
 -- none of its entries stands twice in the table
-pub object_kept_grows : (name : List ℕ) (level : ℕ) (numbers : List ℕ) (t : Tables) → AreDistinct numbers → Grows t (object_kept name level numbers t)
-object_kept_grows name level numbers t once = record {
+pub object_kept_grows : (name : List ℕ) (level : ℕ) (components : List tree.Named) (numbers : List ℕ) (t : Tables) → AreDistinct numbers → Grows t (object_kept name level components numbers t)
+object_kept_grows name level components numbers t once = record {
   more_regions = [];
   more_profiles = [];
   more_tasks = [];
@@ -159,9 +159,9 @@ object_kept_grows name level numbers t once = record {
   tasks = sym (append-nil t.tasks);
   even = omega arith;
   exceptions = omega arith;
-  objects = omega (arith, length_push t.objects (record { name = name; level = level; entries = numbers }));
-  distinct = λ z. object_distinct t.objects (record { name = name; level = level; entries = numbers }) z once;
-  stay = λ n lt. get_or_append_left t.objects ((record { name = name; level = level; entries = numbers }) ∷ []) no_object n lt;
+  objects = omega (arith, length_push t.objects (record { name = name; level = level; components = components; entries = numbers }));
+  distinct = λ z. object_distinct t.objects (record { name = name; level = level; components = components; entries = numbers }) z once;
+  stay = λ n lt. get_or_append_left t.objects ((record { name = name; level = level; components = components; entries = numbers }) ∷ []) no_object n lt;
   entry_profiles = sym (append-nil t.entry_profiles);
   entries = omega arith;
   planned = λ n lt. refl;

@@ -16,7 +16,7 @@ program = record {
   plan = record {
     units = (unit_plan 0 0 false (at 1 1) (at 1 327) ∷ unit_plan 2 2 false (at 1 97) (at 1 145) ∷ unit_plan 1 3 false (at 1 193) (at 1 229) ∷ unit_plan 1 5 false (at 1 236) (at 1 305) ∷ []);
     tasks = (record { unit = 2; entries = (0 ∷ []) } ∷ record { unit = 3; entries = ([]) } ∷ []);
-    objects = (record { name = (codes "P"); level = 1; entries = ([]) } ∷ []);
+    objects = (record { name = (codes "P"); level = 1; components = (record { name = (codes "N"); shown = as_whole } ∷ []); entries = ([]) } ∷ []);
     entries = (record { name = (codes "E"); formals = 0; unit = 0 } ∷ []);
     regions = ((record { name = (codes "P"); shown = hidden 1 } ∷ record { name = (codes "T"); shown = hidden 1 } ∷ record { name = (codes "C"); shown = hidden 1 } ∷ []) ∷ (record { name = (codes ""); shown = hidden 1 } ∷ record { name = (codes "N"); shown = as_whole } ∷ []) ∷ ([]) ∷ (record { name = (codes ""); shown = hidden 1 } ∷ []) ∷ ([]) ∷ (record { name = (codes ""); shown = hidden 1 } ∷ []) ∷ []);
     exceptions = ([]);

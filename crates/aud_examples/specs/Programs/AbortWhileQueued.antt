@@ -13,7 +13,7 @@ program = record {
   plan = record {
     units = (unit_plan 0 0 false (at 1 1) (at 1 214) ∷ unit_plan 2 2 false (at 1 100) (at 1 133) ∷ unit_plan 1 3 false (at 1 155) (at 1 181) ∷ []);
     tasks = (record { unit = 2; entries = ([]) } ∷ []);
-    objects = (record { name = (codes "P"); level = 1; entries = (0 ∷ []) } ∷ []);
+    objects = (record { name = (codes "P"); level = 1; components = (record { name = (codes "OPEN"); shown = as_truth } ∷ []); entries = (0 ∷ []) } ∷ []);
     entries = (record { name = (codes "E"); formals = 0; unit = 1 } ∷ []);
     regions = ((record { name = (codes "P"); shown = hidden 1 } ∷ record { name = (codes "T"); shown = hidden 1 } ∷ []) ∷ (record { name = (codes ""); shown = hidden 1 } ∷ record { name = (codes "OPEN"); shown = as_truth } ∷ []) ∷ ([]) ∷ (record { name = (codes ""); shown = hidden 1 } ∷ []) ∷ []);
     exceptions = ([]);

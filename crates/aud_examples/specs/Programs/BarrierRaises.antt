@@ -19,7 +19,7 @@ program = record {
   plan = record {
     units = (unit_plan 0 0 false (at 1 1) (at 1 473) ∷ unit_plan 2 2 false (at 1 141) (at 1 179) ∷ unit_plan 2 3 false (at 1 186) (at 1 219) ∷ unit_plan 2 4 false (at 1 226) (at 1 256) ∷ unit_plan 1 5 false (at 1 287) (at 1 356) ∷ unit_plan 1 6 false (at 1 363) (at 1 432) ∷ []);
     tasks = (record { unit = 4; entries = ([]) } ∷ record { unit = 5; entries = ([]) } ∷ []);
-    objects = (record { name = (codes "P"); level = 1; entries = (0 ∷ 1 ∷ []) } ∷ []);
+    objects = (record { name = (codes "P"); level = 1; components = (record { name = (codes "Z"); shown = as_whole } ∷ record { name = (codes "OPEN"); shown = as_truth } ∷ []); entries = (0 ∷ 1 ∷ []) } ∷ []);
     entries = (record { name = (codes "A"); formals = 0; unit = 1 } ∷ record { name = (codes "B"); formals = 0; unit = 2 } ∷ []);
     regions = ((record { name = (codes "P"); shown = hidden 1 } ∷ record { name = (codes "X"); shown = hidden 1 } ∷ record { name = (codes "Y"); shown = hidden 1 } ∷ []) ∷ (record { name = (codes ""); shown = hidden 1 } ∷ record { name = (codes "Z"); shown = as_whole } ∷ record { name = (codes "OPEN"); shown = as_truth } ∷ []) ∷ ([]) ∷ ([]) ∷ ([]) ∷ (record { name = (codes ""); shown = hidden 1 } ∷ []) ∷ (record { name = (codes ""); shown = hidden 1 } ∷ []) ∷ []);
     exceptions = ([]);

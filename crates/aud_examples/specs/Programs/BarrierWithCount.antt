@@ -15,7 +15,7 @@ program = record {
   plan = record {
     units = (unit_plan 0 0 false (at 1 1) (at 1 301) ∷ unit_plan 2 2 false (at 1 107) (at 1 187) ∷ unit_plan 1 3 false (at 1 242) (at 1 282) ∷ []);
     tasks = (record { unit = 2; entries = ([]) } ∷ []);
-    objects = (record { name = (codes "G"); level = 1; entries = (0 ∷ []) } ∷ []);
+    objects = (record { name = (codes "G"); level = 1; components = (record { name = (codes "RELEASED"); shown = as_truth } ∷ []); entries = (0 ∷ []) } ∷ []);
     entries = (record { name = (codes "WAIT"); formals = 0; unit = 1 } ∷ []);
     regions = ((record { name = (codes "G"); shown = hidden 1 } ∷ record { name = (codes "A"); shown = hidden 3 } ∷ []) ∷ (record { name = (codes ""); shown = hidden 1 } ∷ record { name = (codes "RELEASED"); shown = as_truth } ∷ []) ∷ ([]) ∷ (record { name = (codes ""); shown = hidden 1 } ∷ []) ∷ []);
     exceptions = ([]);

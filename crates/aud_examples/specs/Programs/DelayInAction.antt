@@ -13,7 +13,7 @@ program = record {
   plan = record {
     units = (unit_plan 0 0 false (at 1 1) (at 1 172) ∷ unit_plan 2 2 false (at 1 71) (at 1 103) ∷ []);
     tasks = ([]);
-    objects = (record { name = (codes "P"); level = 1; entries = ([]) } ∷ []);
+    objects = (record { name = (codes "P"); level = 1; components = ([]); entries = ([]) } ∷ []);
     entries = ([]);
     regions = ((record { name = (codes "P"); shown = hidden 1 } ∷ []) ∷ (record { name = (codes ""); shown = hidden 1 } ∷ []) ∷ ([]) ∷ []);
     exceptions = ([]);

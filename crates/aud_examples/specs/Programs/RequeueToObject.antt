@@ -13,7 +13,7 @@ program with_abort = record {
   plan = record {
     units = (unit_plan 0 0 false (at 1 1) (at 1 283) ∷ unit_plan 2 2 false (at 1 109) (at 1 158) ∷ unit_plan 2 3 false (at 1 165) (at 1 198) ∷ []);
     tasks = ([]);
-    objects = (record { name = (codes "P"); level = 1; entries = (0 ∷ 1 ∷ []) } ∷ []);
+    objects = (record { name = (codes "P"); level = 1; components = (record { name = (codes "OPEN"); shown = as_truth } ∷ []); entries = (0 ∷ 1 ∷ []) } ∷ []);
     entries = (record { name = (codes "A"); formals = 0; unit = 1 } ∷ record { name = (codes "B"); formals = 0; unit = 2 } ∷ []);
     regions = ((record { name = (codes "P"); shown = hidden 1 } ∷ []) ∷ (record { name = (codes ""); shown = hidden 1 } ∷ record { name = (codes "OPEN"); shown = as_truth } ∷ []) ∷ ([]) ∷ ([]) ∷ []);
     exceptions = ([]);

@@ -104,7 +104,7 @@ module _ (plan : Plan) (barrier : ℕ → Sight → Result Bool Raise) (choices 
   taken_same (restarting r) n = refl
   taken_same (expiring delays) n = refl
   taken_same (cancelling id) n =
-      ap (λ i. map (λ time. own_move n) (filter (λ time. nat_le time c.clock) (if is_queued (call_of id c).state && not (call_of id c).stays && i then call_time_by plan barrier (call_of id c).form else [])))
+      ap (λ i. map (λ time. own_move n) (filter (λ time. nat_le time c.clock) (if is_queued (call_of id c).state && not (call_of id c).stays && i then call_time_by (call_of id c).form else [])))
       (idle_same (call_of id c).owner)
   taken_same (acting next) n = acting_same next n
 

@@ -59,7 +59,7 @@ entry_in (suc k) (e ∷ es) less = let fewer : k < length es = omega (arith, les
     or_true true d h = refl
     or_true false d h = h
 
-objects_entry : (entry n : ℕ) (ps : List ObjectPlan) → contains entry (slice_index_or ps n (record { name = []; level = 0; entries = [] })).entries ≡ true → any (λ (o : ObjectPlan). contains entry o.entries) ps ≡ true
+objects_entry : (entry n : ℕ) (ps : List ObjectPlan) → contains entry (slice_index_or ps n (record { name = []; level = 0; components = []; entries = [] })).entries ≡ true → any (λ (o : ObjectPlan). contains entry o.entries) ps ≡ true
 objects_entry entry n [] h = absurd (false≢true h)
 objects_entry entry zero (p ∷ ps) h = ap (λ b. b || any (λ (o : ObjectPlan). contains entry o.entries) ps) h
 objects_entry entry (suc n) (p ∷ ps) h = by (contains entry p.entries) (objects_entry entry n ps h)

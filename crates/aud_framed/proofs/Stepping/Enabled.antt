@@ -63,7 +63,7 @@ module _ (plan : Plan) (barrier : ℕ → Sight → Result Bool Raise) (s : All 
     call_tells : (id : ℕ) → AllMoves (λ m. TurnTells plan m.alternative n s (cancelling id)) (turn_moves plan barrier (cancelling id) n s)
     call_tells id = by (is_queued (call_of id s).state && not (call_of id s).stays && owner_idle plan barrier (call_of id s).owner s) refl
       where
-        by : (b : Bool) → is_queued (call_of id s).state && not (call_of id s).stays && owner_idle plan barrier (call_of id s).owner s ≡ b → AllMoves (λ m. TurnTells plan m.alternative n s (cancelling id)) (map (λ time. own_move n) (filter (λ time. nat_le time s.clock) (if b then call_time_by plan barrier (call_of id s).form else [])))
+        by : (b : Bool) → is_queued (call_of id s).state && not (call_of id s).stays && owner_idle plan barrier (call_of id s).owner s ≡ b → AllMoves (λ m. TurnTells plan m.alternative n s (cancelling id)) (map (λ time. own_move n) (filter (λ time. nat_le time s.clock) (if b then call_time_by (call_of id s).form else [])))
         by true e = each_move _ (λ m. ap (λ i. is_queued (call_of id s).state && not (call_of id s).stays && i) (sym (idle_same (call_of id s).owner)) ∙ e) _
         by false e = tt
 

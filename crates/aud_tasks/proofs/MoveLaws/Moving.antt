@@ -324,7 +324,7 @@ module _ (plan : Plan) (code : Flat) where
     free_same (owner.Task m) = refl
     free_same (owner.Object o) = refl
 
-    time_same : (b : Bool) (f : Form) → (if b then call_time_by plan (barrier_at code) f else []) ≡ listed (if b then time_by f else None)
+    time_same : (b : Bool) (f : Form) → (if b then call_time_by f else []) ≡ listed (if b then time_by f else None)
     time_same false f = refl
     time_same true Plain = refl
     time_same true (Conditional time) = refl
@@ -332,7 +332,7 @@ module _ (plan : Plan) (code : Flat) where
 
     pub call_times : (call : Call) → call_time plan (barrier_at code) call d ≡ listed (cancelled_from call c)
     call_times call =
-        ap (λ b. if is_queued call.state && not call.stays && b then call_time_by plan (barrier_at code) call.form else []) (free_same call.owner)
+        ap (λ b. if is_queued call.state && not call.stays && b then call_time_by call.form else []) (free_same call.owner)
         ∙ time_same (is_queued call.state && not call.stays && is_free call.owner c) call.form
 
     one_time : (b : Bool) (n time : ℕ) → alone_if b n ≡ map (λ (t : ℕ). own_move n) (if b then time ∷ [] else [])

@@ -35,7 +35,7 @@ module _ (plan : Plan) (code : Flat) (n : ℕ) (c : All Spot) where
   d = seen plan (flat_controls plan code) c
 
   -- nor that of a call
-  late_by : (f : Form) → is_later c.clock (time_by f) ≡ true → filter (λ (t : ℕ). nat_le t c.clock) (call_time_by plan (barrier_at code) f) ≡ []
+  late_by : (f : Form) → is_later c.clock (time_by f) ≡ true → filter (λ (t : ℕ). nat_le t c.clock) (call_time_by f) ≡ []
   late_by Plain late = refl
   late_by (Conditional time) late = refl
   late_by (TimedTo time) late = by (nat_le time c.clock) late
@@ -47,7 +47,7 @@ module _ (plan : Plan) (code : Flat) (n : ℕ) (c : All Spot) where
   late : (call : Call) → is_later c.clock (time_by call.form) ≡ true → filter (λ (t : ℕ). nat_le t c.clock) (call_time plan (barrier_at code) call d) ≡ []
   late call is_late = by (is_queued call.state && not call.stays && owner_idle plan (barrier_at code) call.owner d)
     where
-      by : (b : Bool) → filter (λ (t : ℕ). nat_le t c.clock) (if b then call_time_by plan (barrier_at code) call.form else []) ≡ []
+      by : (b : Bool) → filter (λ (t : ℕ). nat_le t c.clock) (if b then call_time_by call.form else []) ≡ []
       by true = late_by call.form is_late
       by false = refl
 

@@ -261,7 +261,7 @@ module _ (plan : Plan) (barrier : ℕ → Sight → Result Bool Raise) (Free : S
   idle_there (owner.Object m) = refl
 
   times_there : (call : Call) → call_time plan barrier call d ≡ call_time plan barrier call e
-  times_there call = ap (λ b. if is_queued call.state && not call.stays && b then call_time_by plan barrier call.form else []) (idle_there call.owner)
+  times_there call = ap (λ b. if is_queued call.state && not call.stays && b then call_time_by call.form else []) (idle_there call.owner)
 
   abbrev with_own : Seen → Own → TaskAt Seen
   with_own x own = record { control = x; own = own }

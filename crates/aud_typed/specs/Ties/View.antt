@@ -260,7 +260,7 @@ abbrev pub plain_task_type : TaskType → tree.TaskPlan
 plain_task_type t = record { unit = t.unit; entries = t.entries.items }
 
 abbrev pub plain_object : ProtectedObject → tree.ObjectPlan
-plain_object o = record { name = o.name; level = o.level; entries = o.entries.items }
+plain_object o = record { name = o.name; level = o.level; components = plain_region o.components; entries = o.entries.items }
 
 abbrev pub entry_with : List ℕ → ℕ → Option EntryBody → tree.EntryBody
 entry_with name formals None = tree.task_entry name formals

@@ -228,7 +228,7 @@ no_task = record { unit = 0; entries = [] }
 
 -- an object
 abbrev pub no_object : ObjectPlan
-no_object = record { name = []; level = 0; entries = [] }
+no_object = record { name = []; level = 0; components = []; entries = [] }
 
 -- how many frames are open around its own
 abbrev pub object_level : Plan → ℕ → ℕ

@@ -2,14 +2,16 @@ use Rattle.std.specs.Prelude.{ℕ, ◌∷◌, [], ◌++◌, map, IfOk, OnOk, Vec
 use Rattle.std.specs.Global.{Global}
 use Rattle.std.proofs.Common.{◌≡◌, ap, subst, ◌∙◌}
 use Rattle.aud_syntax.specs.Ties.View.{plain_operation, plain_private}
+use Rattle.aud_typed.specs.declared.program.Named.{Named}
 use Rattle.aud_typed.specs.Tree.{declare_object}
-use Rattle.aud_typed.specs.Ties.View.{plain_values, plain_statements as plain_typed_statements}
+use Rattle.aud_typed.specs.Ties.View.{plain_region as plain_named_region, plain_values, plain_statements as plain_typed_statements}
 use Rattle.aud_names.specs.Names.{Place}
 use Rattle.aud_names.specs.Rules.{declared_once, right_name_at_end}
 use Rattle.aud_names.specs.Ties.Regions.{plain_region, plain_place}
 use Rattle.aud_check_bodies.specs.declared.declaration.DeclarativePart.{DeclarativePart}
 use Rattle.aud_check_bodies.specs.declared.object.ObjectParts.{ObjectParts}
 use Rattle.aud_check_bodies.specs.Objects.{ObjectDeclared, parts_faults, with_object_parts, with_object}
+use Rattle.aud_check_bodies.specs.Regions.{shown_names}
 use Rattle.aud_check_bodies.specs.Tables.{Tables, next_object, object_kept}
 use Rattle.aud_check_bodies.specs.Ties.Objects.{plain_parts}
 use Rattle.aud_check_bodies.specs.Ties.Tables.{plain_tables}
@@ -41,6 +43,7 @@ returns c =
     let b = c.in_ok-parts-2 in
     let e = c.in_ok-entries in
     let k = c.in_ok-entries-2 in
+    let m = c.in_ok-entries-3 in
     let own = c.name_all-named.new.region in
     let region : plain_region own ≡ with_object_parts x.around.parts (with_object i (next_object t) (plain_region first.region)) =
     subst (λ r. OnOk r (plain_region own ≡ with_object_parts around.parts.items (with_object i number (plain_region first.region)))) b.ensures.next c.name_all-named.ensures ∙ ap (λ n. with_object_parts around.parts.items (with_object i n (plain_region first.region))) c.next_object-number.ensures in
@@ -51,11 +54,17 @@ returns c =
     ∙ ap (λ (p : ObjectParts). plain_typed_statements first.elaborations.items ++ declare_object node.at number (plain_values p.values.items) ∷ []) b.ensures.first
     ∙ ap (λ n. plain_typed_statements first.elaborations.items ++ declare_object node.at n x.values ∷ []) c.next_object-number.ensures in
     let end = plain_tables c.keep_object.new.self in
-    let cloned : k.name ≡ i.name = subst (λ r. IfOk r (λ l. l ≡ i.name)) k.ensures.next c.try_clone-name.ensures in
-    let listed : k.entries.items ≡ x.entries = ap (λ (v : Vec ℕ Global). v.items) (k.ensures.first ∙ e.ensures.first) ∙ ap (λ (p : ObjectParts). p.entries.items) b.ensures.first in
+    let cloned : m.name ≡ i.name = subst (λ r. IfOk r (λ l. l ≡ i.name)) m.ensures.next c.try_clone-name.ensures in
+    let listed : m.entries.items ≡ x.entries = ap (λ (v : Vec ℕ Global × Vec Named Global). v.0.items) m.ensures.first ∙ ap (λ (v : Vec ℕ Global). v.items) (k.ensures.first ∙ e.ensures.first) ∙ ap (λ (p : ObjectParts). p.entries.items) b.ensures.first in
+    let shown : plain_named_region m.components ≡ shown_names x.own.symbols =
+    ap (λ (v : Vec ℕ Global × Vec Named Global). plain_named_region v.1) m.ensures.first
+    ∙ subst (λ r. IfOk r (λ names. plain_named_region names ≡ shown_names b.parts.own.symbols.entries)) k.ensures.next c.names_of-components.ensures
+    ∙ ap (λ (p : ObjectParts). shown_names p.own.symbols.entries) b.ensures.first in
     let leveled : b.parts.own.level ≡ x.own.level = ap (λ (p : ObjectParts). p.own.level) b.ensures.first in
     let r = c.keep_object.result in
-    let kept : OnOk r (end ≡ object_kept i.name x.own.level x.entries x.tables) =
-    subst (λ l. OnOk r (end ≡ object_kept l x.own.level x.entries x.tables)) cloned
-    (subst (λ n. OnOk r (end ≡ object_kept k.name n x.entries x.tables)) leveled (subst (λ l. OnOk r (end ≡ object_kept k.name b.parts.own.level l x.tables)) listed c.keep_object.ensures)) in
+    let kept : OnOk r (end ≡ object_kept i.name x.own.level (shown_names x.own.symbols) x.entries x.tables) =
+    subst (λ l. OnOk r (end ≡ object_kept l x.own.level (shown_names x.own.symbols) x.entries x.tables)) cloned
+    (subst (λ n. OnOk r (end ≡ object_kept m.name n (shown_names x.own.symbols) x.entries x.tables)) leveled
+    (subst (λ l. OnOk r (end ≡ object_kept m.name b.parts.own.level l x.entries x.tables)) shown
+    (subst (λ l. OnOk r (end ≡ object_kept m.name b.parts.own.level (plain_named_region m.components) l x.tables)) listed c.keep_object.ensures))) in
     declares_object c.keep_object.result old new outer first next t end node.at i operations hidden node.end_name x c.in_ok-parts.ensures.declared noted_all region elaborated kept

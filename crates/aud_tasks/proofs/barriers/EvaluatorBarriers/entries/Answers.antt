@@ -3,12 +3,12 @@ use Rattle.aud_typed.specs.declared.program.ProtectedObject.{ProtectedObject}
 use Rattle.aud_typed.specs.Ties.View.{plain_object}
 use Rattle.aud_tasks.proofs.barriers.EvaluatorBarriers.entries.Goals as goal
 
-found_at : (os : List ProtectedObject) (n : ℕ) (o : ProtectedObject) → n < length os → o ≡ get_or os n o → o.entries.items ≡ (slice_index_or (map plain_object os) n (record { name = []; level = 0; entries = [] })).entries
+found_at : (os : List ProtectedObject) (n : ℕ) (o : ProtectedObject) → n < length os → o ≡ get_or os n o → o.entries.items ≡ (slice_index_or (map plain_object os) n (record { name = []; level = 0; components = []; entries = [] })).entries
 found_at [] n o within at = absurd (omega (arith, within))
 found_at (x ∷ os) zero o within at = ap (λ (y : ProtectedObject). y.entries.items) at
 found_at (x ∷ os) (suc n) o within at = found_at os n o (omega (arith, within)) at
 
-past : (os : List ProtectedObject) (n : ℕ) → length os ≤ n → [] ≡ (slice_index_or (map plain_object os) n (record { name = []; level = 0; entries = [] })).entries
+past : (os : List ProtectedObject) (n : ℕ) → length os ≤ n → [] ≡ (slice_index_or (map plain_object os) n (record { name = []; level = 0; components = []; entries = [] })).entries
 past [] n within = refl
 past (x ∷ os) zero within = absurd (omega (arith, within))
 past (x ∷ os) (suc n) within = past os n (omega (arith, within))

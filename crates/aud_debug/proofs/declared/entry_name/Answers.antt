@@ -1,6 +1,6 @@
 use Rattle.std.proofs.Common.{sym, ◌∙◌, arith}
 use Rattle.aud_debug.proofs.Queued.{name_found, name_missing}
-use Rattle.aud_debug.proofs.queues.entry_name.Goals as goal
+use Rattle.aud_debug.proofs.declared.entry_name.Goals as goal
 
 pub returns-in-Some : goal.returns-in-Some
 returns-in-Some c =

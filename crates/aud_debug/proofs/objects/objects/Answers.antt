@@ -1,0 +1,10 @@
+use Rattle.std.proofs.Common.{◌∙◌}
+use Rattle.aud_meaning.specs.Listings.{View}
+use Rattle.aud_debug.proofs.Ended.{page_shown, viewed}
+use Rattle.aud_debug.proofs.objects.objects.Goals as goal
+
+pub returns : goal.returns
+returns c = λ shown h.
+    c.into_lines.ensures
+    ∙ page_shown _ _ _ _ _ _ c.new-page.ensures.bytes c.new-page.ensures.count c.in_ok-push_objects.ensures
+    (viewed (λ (v : View). v.objects) c.args.machine.now shown _ _ _ c.compiled.ensures.program c.compiled.ensures.code (c.parts.ensures.view shown h))
