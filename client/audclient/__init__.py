@@ -1,0 +1,1 @@
+"""A client of `aud` for the terminal: it loads, steps, searches and grades Ada tasking programs."""

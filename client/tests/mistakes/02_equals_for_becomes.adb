@@ -1,0 +1,5 @@
+procedure M is
+   X : Integer;
+begin
+   X = 2;
+end M;

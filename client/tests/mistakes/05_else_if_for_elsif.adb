@@ -1,0 +1,9 @@
+procedure M is
+   X : Integer := 1;
+begin
+   if X > 0 then
+      X := 2;
+   else if X < 0 then
+      X := 3;
+   end if;
+end M;

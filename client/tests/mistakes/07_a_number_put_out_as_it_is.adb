@@ -1,0 +1,5 @@
+procedure M is
+   X : Integer := 1;
+begin
+   Put_Line (X);
+end M;

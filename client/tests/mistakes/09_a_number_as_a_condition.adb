@@ -1,0 +1,7 @@
+procedure M is
+   X : Integer := 1;
+begin
+   while X loop
+      X := X - 1;
+   end loop;
+end M;

@@ -1,0 +1,9 @@
+procedure M is
+   task Worker;
+   task body Worker is
+   begin
+      null;
+   end Woker;
+begin
+   null;
+end M;

@@ -1,0 +1,7 @@
+procedure M is
+   X : Integer := 1;
+begin
+   if X != 2 then
+      X++;
+   end if;
+end M;

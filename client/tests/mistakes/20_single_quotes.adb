@@ -1,0 +1,4 @@
+procedure M is
+begin
+   Put_Line ('hello');
+end M;

@@ -1,0 +1,6 @@
+procedure M is
+begin
+   null;
+   X : Integer := 2;
+   X := X + 1;
+end M;

@@ -1,0 +1,4 @@
+procedure M is
+begin
+   delay 2;
+end M;

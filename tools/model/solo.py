@@ -1,0 +1,11 @@
+"""Answers the session on standard input as `aud --solo` does, once all of it has come."""
+import os
+import sys
+
+os.environ.setdefault("AUD_LATER", "1")
+
+import session
+
+if __name__ == "__main__":
+    sys.setrecursionlimit(100_000)
+    sys.stdout.write(session.answers(sys.stdin.buffer.read().decode("latin-1")))
