@@ -97,8 +97,10 @@ class Trace:
 def trace(command, sent, told):
     asked = list(single_steps(sessions.requests(sent), answers(told)))
     again = answers(answered(command, "".join("\n".join([line, *texts]) + "\n" for line, texts in asked)))
+    if len(again) < len(asked):
+        return "too few answers\n"
     written = Trace()
-    for request, answer in zip(asked, again, strict=True):
+    for request, answer in zip(asked, again):
         written.look(request, answer)
     return written.text()
 
@@ -126,7 +128,8 @@ def is_reached(goal, asked, told):
         return any(line == "OUTPUT" and rest in answer[1:] for (line, _), answer in zip(asked, told))
     if kind == "vars":
         shown = " " + rest.replace(" ", " = ", 1)
-        return any(line[:4] in ("VARS", "OBJE") and shown in answer_line for (line, _), answer in zip(asked, told) for answer_line in answer)
+        looked = [answer for (line, _), answer in zip(asked, told) if line[:4] in ("VARS", "OBJE")]
+        return any(line.endswith(shown) for answer in looked for line in answer)
     states = [answer[0].split(" ", 2)[2] for (line, _), answer in zip(asked, told) if line[:4] in ("RUN ", "STEP")]
     return states[-1:] == [kind]
 

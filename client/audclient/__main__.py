@@ -28,7 +28,7 @@ def main(words=None):
         shell = Shell(session, screen, is_typed, None if is_typed else sys.stdin)
         if options.files and not _opened(shell, options.files[0]) and not is_typed:
             return 1
-        _typed_at(shell, is_typed)
+        shell.cmdloop("`help` tells the commands." if is_typed else None)
     except BrokenPipeError:
         sys.stderr.close()  # Python's own complaint
         return 1
@@ -40,18 +40,6 @@ def main(words=None):
     finally:
         session.close()
     return 0
-
-
-def _typed_at(shell, is_typed):
-    """Does what is typed, to the end; Ctrl-C at the prompt drops a line that was begun."""
-    words = "`help` tells the commands." if is_typed else None
-    while True:
-        try:
-            return shell.cmdloop(words)
-        except KeyboardInterrupt:
-            if not is_typed:
-                raise
-            words = "\n`quit` or Ctrl-D ends"
 
 
 def _opened(shell, path):

@@ -1,5 +1,6 @@
 """What the listings of the protocol tell, line by line (docs/PROTOCOL.md, Listings)."""
-from typing import List, NamedTuple, Optional
+import functools
+from typing import NamedTuple, Optional, Tuple
 
 
 class Move(NamedTuple):
@@ -32,11 +33,11 @@ class Queue(NamedTuple):
 
     owner: str
     entry: str
-    callers: List[int]
+    callers: Tuple[int, ...]
 
 
 class Wait(NamedTuple):
-    """Why a task waits: `call` 3 `FORKS(1).TAKE`, `accept` ["PUT_DOWN"], `delay` 1500, `master` [3, 4] .."""
+    """Why a task waits: `call` and `3 FORKS(1).TAKE`, `accept` and `PUT_DOWN`, `delay` and `1500`, `master` and `3 4` .."""
 
     task: int
     name: str
@@ -73,54 +74,73 @@ class Ran(NamedTuple):
 
 
 def moves(lines):
-    return [Move(int(k), int(t), name, int(line), word) for k, t, name, line, word in (it.split(" ", 4) for it in lines)]
+    return [_move(it) for it in lines]
 
 
 def tasks(lines):
-    found = []
-    for it in lines:
-        number, name, rest = it.split(" ", 2)
-        status, line = rest.rsplit(" ", 1)
-        found.append(Task(int(number), name, status, int(line)))
-    return found
+    return [_task(it) for it in lines]
 
 
 def variables(lines):
-    found = []
-    for it in lines:
-        depth, name, rest = it.split(" ", 2)
-        found.append(Variable(int(depth), name, rest[1:].strip()))
-    return found
+    return [_variable(it) for it in lines]
 
 
 def queues(lines):
-    found = []
-    for it in lines:
-        head, callers = it.split(":", 1)
-        kind, number, entry = head.split(" ", 2)
-        found.append(Queue(f"{kind} {number}", entry, [int(t) for t in callers.split()]))
-    return found
+    return [_queue(it) for it in lines]
 
 
 def waits(lines):
-    found = []
-    for it in lines:
-        number, name, kind, *rest = it.split(" ", 3)
-        found.append(Wait(int(number), name, kind, rest[0] if rest else ""))
-    return found
+    return [_wait(it) for it in lines]
 
 
 def objects(lines):
-    found = []
-    for it in lines:
-        number, name, rest = it.split(" ", 2)
-        if "." not in name:
-            found.append(Part(int(number), name, rest, "object"))
-        elif rest == "=" or rest.startswith("= "):
-            found.append(Part(int(number), name, rest[2:], "component"))
-        else:
-            found.append(Part(int(number), name, rest, "entry"))
-    return found
+    return [_part(it) for it in lines]
+
+
+# The same lines come again and again where all states of a program are looked at.
+remembered = functools.lru_cache(maxsize=100_000)
+
+
+@remembered
+def _move(line):
+    number, task, name, place, word = line.split(" ", 4)
+    return Move(int(number), int(task), name, int(place), word)
+
+
+@remembered
+def _task(line):
+    number, name, rest = line.split(" ", 2)
+    status, place = rest.rsplit(" ", 1)
+    return Task(int(number), name, status, int(place))
+
+
+@remembered
+def _variable(line):
+    depth, name, rest = line.split(" ", 2)
+    return Variable(int(depth), name, rest[1:].strip())
+
+
+@remembered
+def _queue(line):
+    head, callers = line.split(":", 1)
+    kind, number, entry = head.split(" ", 2)
+    return Queue(f"{kind} {number}", entry, tuple(int(t) for t in callers.split()))
+
+
+@remembered
+def _wait(line):
+    number, name, kind, *rest = line.split(" ", 3)
+    return Wait(int(number), name, kind, rest[0] if rest else "")
+
+
+@remembered
+def _part(line):
+    number, name, rest = line.split(" ", 2)
+    if "." not in name:
+        return Part(int(number), name, rest, "object")
+    if rest.startswith("="):
+        return Part(int(number), name, rest[2:], "component")
+    return Part(int(number), name, rest, "entry")
 
 
 def ran(lines):

@@ -16,7 +16,7 @@ class Mentions:
         found = constructs(tokens)
         self._bodies, self._procedures, self._types, self._changers = {}, {}, {}, {}
         for it in found:
-            words = {t.low for t in tokens[it.first:(it.last or len(tokens))] if t.kind == "word"}
+            words = _words(tokens[it.first:it.last or len(tokens)])
             if it.kind == "task body":
                 self._bodies.setdefault(it.name.lower(), set()).update(words)
             elif it.kind == "protected":
@@ -27,9 +27,7 @@ class Mentions:
                 self._procedures.setdefault(it.name.lower(), set()).update(words)
         # The main procedure's declarations are those of others; its own are its statements.
         main = found[0] if found else None
-        self._main = main.name.lower() if main else ""
-        begin = main.begin or 0 if main else 0
-        self._bodies[self._main] = {t.low for t in tokens[begin:] if t.kind == "word"}
+        self._bodies[main.name.lower() if main else ""] = _words(tokens[main.begin or 0 if main else 0:])
         for at, it in enumerate(tokens[:-1]):
             if it.kind == "word" and tokens[at + 1].low in (":", ","):
                 self._declare(tokens, at)
@@ -67,6 +65,16 @@ class Mentions:
         words = self.of(name)
         return owner in words and any(it in words for it in entries)
 
+    def may_abort(self, name):
+        """Whether a task may abort others."""
+        return "abort" in self.of(name)
+
     def may_change(self, name, owner):
         """Whether a task may call an entry or procedure of a protected object: functions change nothing."""
         return self.may_call(name, owner, self._changers.get(owner, ()))
+
+
+def _words(tokens):
+    """The words of some tokens, but for the `abort` of a `requeue .. with abort`, which aborts nothing."""
+    before = [None, *tokens]
+    return {it.low for it, back in zip(tokens, before) if it.kind == "word" and not (back and back.low == "with" and it.low == "abort")}

@@ -1,5 +1,6 @@
 """The shell: a command a line."""
 import cmd
+import contextlib
 import glob
 import os
 import re
@@ -28,6 +29,7 @@ SHORT = {"s": "step", "r": "run", "b": "back", "f": "forward", "l": "list", "u":
 AGAIN = ("step", "back", "forward", "run")  # what an empty line does again
 OF_FILES = ("load", "replay", "save", "check")
 HISTORY = os.path.join(os.path.expanduser("~"), ".aud_history")
+LINES_KEPT = 1000  # of it
 
 REFUSED = {
     "E10": "this aud does not know the request: it is older than the client",
@@ -50,7 +52,25 @@ class Shell(Looking, Going, Finding, cmd.Cmd):
             # Commands come from a file: each is shown before what it does, so that the whole reads like a session.
             self.prompt, self.use_rawinput = "", False
 
-    # -- around a command --
+    # -- around commands --
+
+    def cmdloop(self, intro=None):
+        if not self.is_typed:
+            return super().cmdloop(intro)
+        with contextlib.suppress(OSError):
+            readline.read_history_file(HISTORY)
+        while True:
+            try:
+                super().cmdloop(intro)
+                break
+            except KeyboardInterrupt:
+                # At the prompt it drops what was typed.
+                self.screen.say("")
+                intro = ""
+        with contextlib.suppress(OSError):
+            readline.set_history_length(LINES_KEPT)
+            readline.write_history_file(HISTORY)
+        return None
 
     def onecmd(self, line):
         if not self.is_typed and line != "EOF":
@@ -176,20 +196,6 @@ class Shell(Looking, Going, Finding, cmd.Cmd):
             return [it for it in COMMANDS if it.startswith(text)]
         return []
 
-    def preloop(self):
-        if self.is_typed:
-            try:
-                readline.read_history_file(HISTORY)
-            except OSError:
-                pass
-
-    def postloop(self):
-        if self.is_typed:
-            readline.set_history_length(1000)
-            try:
-                readline.write_history_file(HISTORY)
-            except OSError:
-                pass
 
 
 def _halves(line):

@@ -24,6 +24,7 @@ class Graph:
         self.reasons = {}  # of each task that waits
         self.due = {}  # when a task goes on by itself
         self.passive = set()  # waits at an open `terminate`
+        self.aborters = []  # those that can go on, and may abort others
         self._spelled = source.spelled
         self._mentions = source.mentions
         self._served = last_served(events)
@@ -57,6 +58,7 @@ class Graph:
             lines.append("a circle of tasks that wait for each other:")
             lines += [f"  {self.name(t)} {self._words(t, then)}" for t, then in zip(self.circle, self.circle[1:] + self.circle[:1])]
             lines += [f"  but {self.name(it)} goes on when the clock is {self.due[it]}" for it in self.circle if it in self.due]
+            lines += [f"  but {self.name(it)} may abort tasks" for it in self.aborters]
         others = sorted(self.stuck - set(self.circle))
         if others:
             lines.append(f"nobody can free {self.names(others)}{' either' * bool(self.circle)}")
@@ -93,8 +95,12 @@ class Graph:
             what = f"to accept {entry}" if wait.kind == "call" else f"to end the rendezvous of {entry}"
             return Reason(f"waits for {self.name(owner[0])} {what}", owner, owner)
         actors = self._actors.get(int(words[1]), [])
-        if wait.kind == "selected":
+        if wait.kind == "selected" and actors:
             return Reason(f"waits for {self.names(actors)} to end {entry}", actors, actors)
+        if wait.kind == "selected":
+            # Whoever accepted it has sent it on, and does it next.
+            others = self._who(wait.task, lambda name: True)
+            return Reason(f"waits for the start of {entry}", others, [])
         owner = entry.split(".")[0]
         able = self._who(wait.task, lambda name: self._mentions.may_change(name, owner.lower()))
         return Reason(f"waits for the barrier of {entry}" + self._by(able, f"may change {owner}"), able, able, is_guessed=True)
@@ -127,8 +133,11 @@ class Graph:
         while True:
             free = {t for t in held if any(self._may_end(it, held) for it in self.reasons[t])}
             if not free:
-                return held - self.passive
+                break
             held = held - free
+        self.aborters = [it.number for it in self.tasks.values()
+                         if it.number not in held and not it.is_over and self._mentions.may_abort(it.name)]
+        return set() if self.aborters else held - self.passive
 
     def _may_end(self, reason, held):
         if reason.is_all:

@@ -1,8 +1,5 @@
 """Answers the session on standard input as `aud --solo` does, once all of it has come."""
-import os
 import sys
-
-os.environ.setdefault("AUD_LATER", "1")
 
 import session
 
