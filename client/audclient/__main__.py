@@ -82,7 +82,8 @@ def _program():
         return found
     if named:
         raise SystemExit(f"aud: AUD names {named}, which is no program")
-    raise SystemExit("aud: no program was built here (README.md, Try it): name one by AUD or --program, or a server by --at HOST:PORT")
+    raise SystemExit(
+        "aud: no program was built here (README.md, Try it): name one by AUD or --program, or a server by --at HOST:PORT")
 
 
 if __name__ == "__main__":

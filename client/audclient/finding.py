@@ -66,9 +66,11 @@ class Finding:
         return found.events
 
     def _among_all(self, goal):
-        source = self.session.source
+        source, spread = self.session.source, self.session.source.spread()
+        if spread.fault:
+            raise Wrong("the program is too large for `search all`")
         try:
-            self.session.load(source.spread())
+            self.session.load(spread)
             found = states.Explorer(self.session, goal).explore(say=lambda count: self.tell_progress(f"{count} states"))
         except Refused as refused:
             if refused.code == "E22":
@@ -108,7 +110,8 @@ class Finding:
         """replay FILE  load the program of a session file, and do again what it does"""
         path = self.one_file(words)
         source, requests = files.read(path)
-        self.load(source)
+        if not self.load(source):
+            return
         refused = files.retrace(self.session, requests)
         if refused:
             self.screen.say(f"refused: {refused}")

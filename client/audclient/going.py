@@ -28,7 +28,8 @@ class Going:
             own = [it for it in moves if it.task == task.number]
             if len(own) != 1:
                 which = " or ".join(f"step {it.number}" for it in own)
-                raise Wrong(f"t{task.number} has {len(own)} moves: {which}" if own else f"t{task.number} cannot go on now: {task.status}")
+                has = f"has {len(own)} moves: {which}" if own else f"cannot go on now: {task.status}"
+                raise Wrong(f"t{task.number} {has}")
             pick = own[0].number
         made, look = self.stepper.step(look, pick)
         self.screen.step(self.session.run.length, made)
@@ -120,7 +121,8 @@ class Going:
         elif word:
             self.stepper.begin(number(word, "SEED", 0, 10**12 - 1))
         seed = self.stepper.seed
-        self.screen.say("moves are picked in the order of tasks" if seed is None else f"moves are picked at random, from seed {seed}")
+        how = "in the order of tasks" if seed is None else f"at random, from seed {seed}"
+        self.screen.say(f"moves are picked {how}")
 
     def do_choices(self, words):
         """choices [C ..]  the choices that led here; with numbers, the next ones

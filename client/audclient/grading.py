@@ -26,6 +26,7 @@ from .stepping import Stepper
 SCHEDULES = 300
 PROGRAM_STEPS = 20_000  # of a program that is handed in without a session
 NAMES = ("asked", ".asked")  # how a file of demands ends
+KINDS = "reach, never, always, program, steps or schedules"
 
 
 class Demand(NamedTuple):
@@ -65,7 +66,7 @@ def demands_of(path):
                 elif kind in ("steps", "schedules") and words.isdigit() or kind == "program" and words:
                     found.append(Demand(kind, words))
                 elif kind:
-                    raise BadFile(f"{path}, line {number}: reach, never, always, program, steps or schedules, and not `{kind}`")
+                    raise BadFile(f"{path}, line {number}: {KINDS}, and not `{kind}`")
             except goals.BadGoal as bad:
                 raise BadFile(f"{path}, line {number}: {bad}") from None
     return found
@@ -154,7 +155,7 @@ def grade(session, paths, screen):
     if paths and is_asked(paths[0]):
         asked, *paths = paths
     rows = [graded(session, it, asked) for it in paths]
-    shown = [[it.file, it.program, it.steps, it.state, "good" if it.is_good else "FAILED: " + "; ".join(it.failed)] for it in rows]
+    shown = [[*it[:4], "good" if it.is_good else "FAILED: " + "; ".join(it.failed)] for it in rows]
     screen.table(shown, ("file", "program", "steps", "state", ""))
     good = sum(it.is_good for it in rows)
     screen.say(f"{good} of {len(rows)} good")

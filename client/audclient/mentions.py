@@ -76,5 +76,9 @@ class Mentions:
 
 def _words(tokens):
     """The words of some tokens, but for the `abort` of a `requeue .. with abort`, which aborts nothing."""
-    before = [None, *tokens]
-    return {it.low for it, back in zip(tokens, before) if it.kind == "word" and not (back and back.low == "with" and it.low == "abort")}
+    words, before = set(), ""
+    for it in tokens:
+        if it.kind == "word" and (before, it.low) != ("with", "abort"):
+            words.add(it.low)
+        before = it.low
+    return words

@@ -1,7 +1,7 @@
 """A run that can be repeated: the steps since a program was loaded, each with the move that was picked, and the clock."""
 from typing import NamedTuple, Optional
 
-from .protocol import CHOICES, RUN
+from .protocol import CHOICES, RUN, WAIT
 
 CHOOSE_BYTES = 1000  # of one CHOOSE
 
@@ -114,7 +114,7 @@ class Run:
                 count += 1
             else:
                 flush()
-                asked.append(f"ADVANCE {event.ms}" if isinstance(event, Advance) else event.request)
+                asked += advance(event.ms) if isinstance(event, Advance) else [event.request]
         flush()
         return asked
 
@@ -122,6 +122,12 @@ class Run:
 def _runs(count):
     whole, rest = divmod(count, RUN)
     return [f"RUN {RUN}"] * whole + [f"RUN {rest}"] * (rest > 0)
+
+
+def advance(ms):
+    """The requests by which the clock goes on so far."""
+    whole, rest = divmod(ms, WAIT)
+    return [f"ADVANCE {WAIT}"] * whole + [f"ADVANCE {rest}"] * (rest > 0)
 
 
 def _chosen(choices):

@@ -7,7 +7,7 @@ from typing import List, NamedTuple, Tuple
 from . import listing
 from .files import retrace
 from .protocol import Refused
-from .run import Advance, Run, Step, choose
+from .run import Advance, Run, Step, advance, choose
 
 SCHEDULES = 2000  # that are tried
 STEPS = 5000  # of one schedule
@@ -54,7 +54,7 @@ class Player:
                     continue
             if due is None or self.made >= self.steps or turns >= TURNS:
                 return self._is_seen(ran, self._answers(*self.goal.at_the_end) if self.goal.at_the_end else [])
-            asked = [f"ADVANCE {due - clock}"]
+            asked = advance(due - clock)
             clock, turns = due, turns + 1
             early = [it for it in early if it > self.made]
 

@@ -3,17 +3,17 @@ import itertools
 import time
 
 from . import listing
-from .protocol import Lost, Refused, Unreachable
-from .run import Advance, Plain, Raw, Run, Step, choose
+from .protocol import WAIT, Lost, Refused, Unreachable
+from .run import Advance, Plain, Raw, Run, Step, advance, choose
 
 PATIENCE = 15  # seconds for which a lost session is tried anew
 RETRIES = 3  # how often one batch is sent
-TURNS = 1000  # of the clock, in one run: each takes up to three requests, and a new session is to have room behind them
+TURNS = 1000  # ADVANCEs of one run: with what stands between them they are to leave room in a new session's journal
 BATCH = 50  # steps that are looked at by one batch of requests
 
 
 class TooLong(Exception):
-    """The clock was turned so often that no new session could go on behind the run."""
+    """The clock was turned so often, or so far, that no new session could go on behind the run."""
 
 
 class Stopped(Exception):
@@ -131,9 +131,10 @@ class Session:
         return ran
 
     def advance(self, ms):
-        if sum(isinstance(it, Advance) for it in self.run.events) >= TURNS:
+        turned = sum(it.ms // WAIT + 1 for it in self.run.events if isinstance(it, Advance))
+        if turned + ms // WAIT + 1 > TURNS:
             raise TooLong
-        self.ask(f"ADVANCE {ms}")
+        self.ask_all(advance(ms))
         self.run.add(Advance(ms))
 
     def step(self, pick, moves, tasks, before):

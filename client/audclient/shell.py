@@ -27,6 +27,7 @@ GROUPS = (
 COMMANDS = " ".join(it for _, it in GROUPS).split()
 SHORT = {"s": "step", "r": "run", "b": "back", "f": "forward", "l": "list", "u": "until", "m": "moves", "t": "tasks", "q": "quit"}
 AGAIN = ("step", "back", "forward", "run")  # what an empty line does again
+GOALS = ("all", "stuck", "circle", "ended", "endless", "output", "vars", "raised")
 OF_FILES = ("load", "replay", "save", "check")
 HISTORY = os.path.join(os.path.expanduser("~"), ".aud_history")
 LINES_KEPT = 1000  # of it
@@ -84,7 +85,7 @@ class Shell(Looking, Going, Finding, cmd.Cmd):
         except Stopped as stopped:
             self.screen.state(stopped.ran)
         except TooLong:
-            self.screen.say("the clock was turned 1,000 times, the most of a run: `back` or `reset`")
+            self.screen.say("the clock was turned too often or too far for this run to be repeated: `back` or `reset`")
         except Unreachable as unreachable:
             self.screen.say(f"no session: {unreachable}", "the next command tries again")
         except OSError as error:
@@ -140,8 +141,8 @@ class Shell(Looking, Going, Finding, cmd.Cmd):
             except Refused as refused:
                 fault = Fault(refused.code, *(refused.place or (None, None)), refused.words)
                 if fault.code == "E22":
-                    size = sum(len(it) + 1 for it in source.lines)
-                    fault = fault._replace(words=f"source too long: {size} bytes, and {self.session.place.source_limit} is the most")
+                    size, most = sum(len(it) + 1 for it in source.lines), self.session.place.source_limit
+                    fault = fault._replace(words=f"source too long: {size} bytes, and {most} is the most")
         if fault is not None:
             for it in hints.told(source, fault):
                 self.screen.say(it)
@@ -191,7 +192,7 @@ class Shell(Looking, Going, Finding, cmd.Cmd):
             cut = len(start) - len(text)
             return [it[cut:] + ("/" if os.path.isdir(it) else "") for it in sorted(glob.glob(glob.escape(start) + "*"))]
         if word == "search":
-            return [it + " " for it in ("all", "stuck", "circle", "ended", "endless", "output", "vars", "raised") if it.startswith(text)]
+            return [it + " " for it in GOALS if it.startswith(text)]
         if word == "help":
             return [it for it in COMMANDS if it.startswith(text)]
         return []

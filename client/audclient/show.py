@@ -78,9 +78,8 @@ class Screen:
                 self.say(f"{mark}{number:4} | {text}".rstrip())
 
     def moves(self, moves):
-        rows = [[it.number, f"t{it.task}", self.spelled(it.name), it.word, self.line(it.line)] for it in moves]
-        cells = [[row[1], row[2], f"step {row[0]}", *row[3:]] for row in rows]
-        self.table(cells, ("task", "", "by", "what", "line"), [it.task for it in moves])
+        rows = [[f"t{it.task}", self.spelled(it.name), f"step {it.number}", it.word, self.line(it.line)] for it in moves]
+        self.table(rows, ("task", "", "by", "what", "line"), [it.task for it in moves])
 
     def tasks(self, tasks, queues, waits):
         queued = {t: it.entry for it in queues for t in it.callers}
@@ -106,7 +105,8 @@ class Screen:
         rows, owners = [], []
         for task, variables in found:
             for it in variables:
-                rows.append([f"t{task.number}", self.spelled(task.name), "  " * (it.depth - 1) + self.spelled(it.name), it.value])
+                name = "  " * (it.depth - 1) + self.spelled(it.name)
+                rows.append([f"t{task.number}", self.spelled(task.name), name, it.value])
                 owners.append(task.number)
         if not rows:
             self.say("no variables")
@@ -131,10 +131,11 @@ class Screen:
         self.table(rows)
 
     def waits(self, graph):
-        rows = [[f"t{t}", self.spelled(graph.tasks[t].name), it.words] for t, its in sorted(graph.reasons.items()) for it in its]
-        if not rows:
+        reasons = [(t, it.words) for t, its in sorted(graph.reasons.items()) for it in its]
+        if not reasons:
             self.say("no task waits")
-        self.table(rows, ("task", "", "why"), [t for t, its in sorted(graph.reasons.items()) for _ in its])
+        rows = [[f"t{t}", self.spelled(graph.tasks[t].name), words] for t, words in reasons]
+        self.table(rows, ("task", "", "why"), [t for t, _ in reasons])
         for it in graph.told():
             self.say(self.paint(it, 31))
 

@@ -10,7 +10,7 @@ from . import listing
 from .goals import Goal
 from .hidden import Hidden
 from .protocol import Refused
-from .run import Advance, Run, Step
+from .run import Advance, Run, Step, advance
 from .waiting import Graph
 
 STATES = 20_000  # that are looked at
@@ -125,7 +125,7 @@ class Explorer:
                 led_to[back] = ["RESET", *Run(self._path(back)).requests()]
             led = led_to[back]
             step = [] if event is None else ["RUN 1"] if isinstance(event, Step) and event.of == 1 else (
-                [f"STEP {event.pick}"] if isinstance(event, Step) else [f"ADVANCE {event.ms}"])
+                [f"STEP {event.pick}"] if isinstance(event, Step) else advance(event.ms))
             tasks = [1] if back is None else [t for t, it in self.nodes[back].shown.statuses.items() if it != "terminated"]
             look = [*self._listings, *(f"VARS {it}" for it in tasks)]
             look += ["OUTPUT"] * (isinstance(event, Step) and event.word == "put")

@@ -112,7 +112,8 @@ class Graph:
         elif words[-2:-1] == ["delay"]:
             words = words[:-2]
         entries = " or ".join(map(self._spelled, words))
-        able = self._who(wait.task, lambda name: self._mentions.may_call(name, base(wait.name), [it.lower() for it in words]))
+        lower = [it.lower() for it in words]
+        able = self._who(wait.task, lambda name: self._mentions.may_call(name, base(wait.name), lower))
         served = self._served.get(wait.task)
         if served in able:
             return Reason(f"waits for a call of {entries}; it served {self.name(served)} last", able, [served], is_guessed=True)

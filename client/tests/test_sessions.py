@@ -94,6 +94,16 @@ class Sessions:
         link._reader = reader
         self.assertEqual(typed.type("tasks", "vars"), before)
 
+    def test_a_long_delay(self):
+        typed = self.typed()
+        typed.shell.load(Source.of_text("procedure M is begin delay Duration (5000000); Put_Line (\"late\"); end M;"))
+        shown = typed.type("run")
+        self.assertIn("the clock went on to 5000000000\n       output: late", shown)
+        self.cut(typed.session)
+        self.assertIn("the clock is 5000000000\n", typed.type("clock"))
+        self.assertIn("`output late` is seen", typed.type("reset", "search output late"))
+        self.assertIn("`output late` is seen", typed.type("reset", "search all output late"))
+
     def test_a_run_of_many_steps(self):
         typed = self.typed("runaway")
         self.assertIn("250000 steps: it can go on", typed.type("run 250000"))
@@ -236,6 +246,11 @@ class Runs(unittest.TestCase):
             word, *numbers = it.split()
             waiting += len(numbers) if word == "CHOOSE" else -int(numbers[0])
             self.assertLessEqual(waiting, 10_000)
+
+    def test_a_long_time(self):
+        run = Run([Advance(2_500_000_000)])
+        self.assertEqual(run.requests(), ["ADVANCE 1000000000", "ADVANCE 1000000000", "ADVANCE 500000000"])
+        self.assertEqual((run.length, run.clock), (1, 2_500_000_000))
 
     def test_runs_as_they_were_sent(self):
         self.assertEqual(Run([Raw("RUN 1")] * 70_000 + [Raw("RUN 50000")]).requests(), ["RUN 100000", "RUN 20000"])
